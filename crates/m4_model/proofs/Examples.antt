@@ -1,0 +1,90 @@
+-- The definitions on small cases that a reader can work by hand.
+use Rattle.std.proofs.Common.{◌≡◌, ℕ, List, [], ◌∷◌, refl, Ok, Err, codes}
+use Rattle.std.specs.Fmt.{digits}
+use Rattle.m4_model.specs.Field.{gf2, clmul, mul, sum_below, bits_within, rem_within}
+use Rattle.m4_model.specs.Matrix.{Matrix, table, product}
+use Rattle.m4_model.specs.Shapes.{transposed, above, beside, cut, replace, swaps, exchanged}
+use Rattle.m4_model.specs.Text.{text}
+use Rattle.m4_model.specs.Words.{job, names_from, Mul}
+
+-- a matrix over GF(2)
+abbrev bits : ℕ → ℕ → List (List ℕ) → Matrix
+bits m n entries = record { field = gf2; rows = m; cols = n; entries = entries }
+
+-- 53 and ca are inverse to each other modulo 11b, and x times x^3 is 1 modulo 1f
+inverse_elements : mul (record { degree = 8; poly = 0x11b }) 0x53 0xca ≡ 1
+unfolding mul clmul sum_below bits_within rem_within
+inverse_elements = refl
+
+x_to_the_fourth : mul (record { degree = 4; poly = 0x1f }) 2 8 ≡ 0xf
+unfolding mul clmul sum_below bits_within rem_within
+x_to_the_fourth = refl
+
+-- 11/01 times 10/11 is 01/11
+small_product : text (product (bits 2 2 ((1 ∷ 1 ∷ []) ∷ (0 ∷ 1 ∷ []) ∷ [])) (bits 2 2 ((1 ∷ 0 ∷ []) ∷ (1 ∷ 1 ∷ []) ∷ []))) ≡ codes "gf2 2 2\n01\n11\n"
+unfolding mul clmul sum_below bits_within rem_within table digits
+small_product = refl
+
+-- with no inner columns the product is zero
+no_inner_columns : text (product (bits 2 0 ([] ∷ [] ∷ [])) (bits 0 3 [])) ≡ codes "gf2 2 3\n000\n000\n"
+unfolding mul clmul sum_below bits_within rem_within table digits
+no_inner_columns = refl
+
+-- a row of no columns is a line feed alone
+no_columns : text (bits 2 0 ([] ∷ [] ∷ [])) ≡ codes "gf2 2 0\n\n\n"
+unfolding digits
+no_columns = refl
+
+-- the parts of 110/011
+rows_and_columns : text (transposed (bits 2 3 ((1 ∷ 1 ∷ 0 ∷ []) ∷ (0 ∷ 1 ∷ 1 ∷ []) ∷ []))) ≡ codes "gf2 3 2\n10\n11\n01\n"
+unfolding table digits
+rows_and_columns = refl
+
+one_over_another : text (above (bits 1 2 ((1 ∷ 0 ∷ []) ∷ [])) (bits 1 2 ((0 ∷ 1 ∷ []) ∷ []))) ≡ codes "gf2 2 2\n10\n01\n"
+unfolding table digits
+one_over_another = refl
+
+one_beside_another : text (beside (bits 1 2 ((1 ∷ 0 ∷ []) ∷ [])) (bits 1 2 ((0 ∷ 1 ∷ []) ∷ []))) ≡ codes "gf2 1 4\n1001\n"
+unfolding table digits
+one_beside_another = refl
+
+a_part : text (cut (bits 2 3 ((1 ∷ 1 ∷ 0 ∷ []) ∷ (0 ∷ 1 ∷ 1 ∷ []) ∷ [])) 0 1 2 3) ≡ codes "gf2 2 2\n10\n11\n"
+unfolding table digits
+a_part = refl
+
+a_part_replaced : text (replace (bits 2 3 ((1 ∷ 1 ∷ 0 ∷ []) ∷ (0 ∷ 1 ∷ 1 ∷ []) ∷ [])) 1 1 (bits 1 2 ((0 ∷ 0 ∷ []) ∷ []))) ≡ codes "gf2 2 3\n110\n000\n"
+unfolding table digits
+a_part_replaced = refl
+
+exchanges : swaps 3 (2 ∷ 2 ∷ 2 ∷ []) ≡ 2 ∷ 0 ∷ 1 ∷ []
+unfolding exchanged
+exchanges = refl
+
+-- words that are a job, and words that are none
+asks_for_a_product : job (codes "mul" ∷ codes "A" ∷ codes "B" ∷ []) ≡ Ok (record { command = Mul; files = codes "A" ∷ codes "B" ∷ [] })
+unfolding job names_from
+asks_for_a_product = refl
+
+no_words : job [] ≡ Err 1
+unfolding job
+no_words = refl
+
+no_command : job (codes "multiply" ∷ []) ≡ Err 1
+unfolding job names_from
+no_command = refl
+
+a_file_too_few : job (codes "mul" ∷ codes "A" ∷ []) ≡ Err 3
+unfolding job names_from
+a_file_too_few = refl
+
+a_file_too_many : job (codes "mul" ∷ codes "A" ∷ codes "B" ∷ codes "C" ∷ []) ≡ Err 4
+unfolding job names_from
+a_file_too_many = refl
+
+no_such_option : job (codes "mul" ∷ codes "--k=9" ∷ codes "A" ∷ codes "B" ∷ []) ≡ Err 2
+unfolding job names_from
+no_such_option = refl
+
+an_option_in_place_of_a_file : job (codes "mul" ∷ codes "--k=9" ∷ []) ≡ Err 2
+unfolding job names_from
+an_option_in_place_of_a_file = refl
