@@ -1,3 +1,4 @@
+pub mod FieldLaws
 pub mod FieldLemmas
 pub mod MatrixLemmas
 mod Examples
