@@ -1,6 +1,9 @@
 pub mod Field
 pub mod Matrix
 pub mod Shapes
+pub mod Rank
+pub mod Forms
+pub mod Factors
 pub mod Text
 pub mod Words
 pub mod Outcome

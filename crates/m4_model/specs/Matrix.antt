@@ -1,7 +1,7 @@
 -- Matrices over a field, their entries, and their sum and product.
-use Rattle.std.specs.Prelude.{◌≡◌, ℕ, ◌+◌, ◌^◌, ◌<◌, ◌≤◌, List, [], ◌∷◌, map, length, bit_xor, slice_index, slice_index_or, slice_set, ◌==◌, if◌then◌else◌}
+use Rattle.std.specs.Prelude.{◌≡◌, ℕ, ◌<◌, List, [], ◌∷◌, map, length, bit_xor, slice_index, slice_index_or, slice_set, ◌==◌, if◌then◌else◌}
 use Rattle.std.specs.List.{range_with_len}
-use Rattle.m4_model.specs.Field.{Field, IsField, IsElement, gf2, sum_below, mul}
+use Rattle.m4_model.specs.Field.{Field, IsField, IsElement, sum_below, mul}
 
 -- A field, a number of rows, a number of columns, and the rows of entries.
 pub record Matrix : Type 0 where
@@ -24,6 +24,13 @@ pub record IsMatrix (A : Matrix) : Type 0 where
   pub height : length A.entries ≡ A.rows
   pub width : (i : ℕ) → i < A.rows → length (row A i) ≡ A.cols
   pub elements : (i j : ℕ) → i < A.rows → j < A.cols → IsElement A.field (at A i j)
+
+-- A is an m x n matrix over F.
+pub record HasShape (F : Field) (m n : ℕ) (A : Matrix) : Type 0 where
+  pub is_matrix : IsMatrix A
+  pub over : A.field ≡ F
+  pub rows : A.rows ≡ m
+  pub cols : A.cols ≡ n
 
 -- The rows of g i j, for i below m and j below n.
 unfoldable pub table : ℕ → ℕ → (ℕ → ℕ → ℕ) → List (List ℕ)
