@@ -3,5 +3,7 @@ pub mod FieldLemmas
 pub mod SumLemmas
 pub mod ProductLemmas
 pub mod DependenceLemmas
+pub mod ShapeLemmas
+pub mod EchelonLemmas
 pub mod MatrixLemmas
 mod Examples
