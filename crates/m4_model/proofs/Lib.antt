@@ -5,5 +5,6 @@ pub mod ProductLemmas
 pub mod DependenceLemmas
 pub mod ShapeLemmas
 pub mod EchelonLemmas
+pub mod RankLemmas
 pub mod MatrixLemmas
 mod Examples
