@@ -31,7 +31,7 @@ module _ (F : Field) (laws : FieldLaws F) where
       → sum_below l (λ s. mul F (left i s) (sum_below j (λ t. mul F (c t) (e s t)))) ≡ sum_below j (λ t. mul F (c t) (times F l left e i t))
   combination-times l j left e c i =
       sum_below-same l (λ s. mul F (left i s) (sum_below j (λ t. mul F (c t) (e s t)))) (λ s. mul F (left i s) (times F j e (λ t k. c t) s 0))
-          (λ s below. ap (mul F (left i s)) (combination j e c s))
+      (λ s below. ap (mul F (left i s)) (combination j e c s))
       ∙ sym (times_assoc F laws l j left e (λ t k. c t) i 0)
       ∙ sym (combination j (times F l left e) c i)
 
@@ -41,10 +41,10 @@ module _ (F : Field) (laws : FieldLaws F) where
   Combined-times m l left e p j c made combined i below =
       made i j below (omega arith)
       ∙ sum_below-same l (λ s. mul F (left i s) (e s j)) (λ s. mul F (left i s) (sum_below j (λ t. mul F (c t) (e s t))))
-          (λ s within. ap (mul F (left i s)) (combined s within))
+      (λ s within. ap (mul F (left i s)) (combined s within))
       ∙ combination-times l j left e c i
       ∙ sum_below-same j (λ t. mul F (c t) (times F l left e i t)) (λ t. mul F (c t) (p i t))
-          (λ t before. ap (mul F (c t)) (sym (made i t below (omega (arith, before)))))
+      (λ t before. ap (mul F (c t)) (sym (made i t below (omega (arith, before)))))
 
   -- with ones on the diagonal and zeros above it, a factor takes only zero to zero
   pub unit_lower-zero : (m : ℕ) (left : ℕ → ℕ → ℕ) (d : ℕ → ℕ) → ((i : ℕ) → i < m → left i i ≡ 1)
@@ -54,10 +54,10 @@ module _ (F : Field) (laws : FieldLaws F) where
   unit_lower-zero m left d ones above elements none (suc k) i before below =
       let earlier = unit_lower-zero m left d ones above elements none k in
       let others : (s : ℕ) → s < m → s ≢ i → mul F (left i s) (d s) ≡ 0
-          = λ s within other. ⊎_elim
-            (λ (later : i < s). ap (λ (x : ℕ). mul F x (d s)) (above i s later within) ∙ mul-zero_left F laws (d s))
-            (λ (sooner : s ≤ i). ap (mul F (left i s)) (earlier s (omega (arith, sooner, other, before)) within) ∙ laws.annihilates (left i s))
-            (cases_lt i s) in
+      = λ s within other. ⊎_elim
+      (λ (later : i < s). ap (λ (x : ℕ). mul F x (d s)) (above i s later within) ∙ mul-zero_left F laws (d s))
+      (λ (sooner : s ≤ i). ap (mul F (left i s)) (earlier s (omega (arith, sooner, other, before)) within) ∙ laws.annihilates (left i s))
+      (cases_lt i s) in
       sym (laws.unit (d i) (elements i below))
       ∙ ap (λ (x : ℕ). mul F x (d i)) (sym (ones i below))
       ∙ sym (sum_below-single m i (λ s. mul F (left i s) (d s)) below others)
@@ -71,15 +71,15 @@ module _ (F : Field) (laws : FieldLaws F) where
   Combined_from_times m left e p j c ones above coefficients entries made combined i below =
       let d : ℕ → ℕ = λ s. bit_xor (e s j) (sum_below j (λ t. mul F (c t) (e s t))) in
       let elements : (s : ℕ) → s < m → IsElement F (d s)
-          = λ s within. xor_lt F.degree (e s j) (sum_below j (λ t. mul F (c t) (e s t))) (entries s j within (omega arith))
-            (IsElement-combination j e c s coefficients (λ t before. entries s t within (omega (arith, before)))) in
+      = λ s within. xor_lt F.degree (e s j) (sum_below j (λ t. mul F (c t) (e s t))) (entries s j within (omega arith))
+      (IsElement-combination j e c s coefficients (λ t before. entries s t within (omega (arith, before)))) in
       let none : (s : ℕ) → s < m → sum_below m (λ t. mul F (left s t) (d t)) ≡ 0
-          = λ s within.
-            times-xor_right F laws m left (λ t k. e t j) (λ t k. sum_below j (λ u. mul F (c u) (e t u))) s 0
-            ∙ ap₂ bit_xor (sym (made s j within (omega arith)))
-                (combination-times m j left e c s
-                ∙ sum_below-same j (λ t. mul F (c t) (times F m left e s t)) (λ t. mul F (c t) (p s t))
-                    (λ t before. ap (mul F (c t)) (sym (made s t within (omega (arith, before)))))
-                ∙ sym (combined s within))
-            ∙ xor_self (p s j) in
+      = λ s within.
+      times-xor_right F laws m left (λ t k. e t j) (λ t k. sum_below j (λ u. mul F (c u) (e t u))) s 0
+      ∙ ap₂ bit_xor (sym (made s j within (omega arith)))
+      (combination-times m j left e c s
+      ∙ sum_below-same j (λ t. mul F (c t) (times F m left e s t)) (λ t. mul F (c t) (p s t))
+      (λ t before. ap (mul F (c t)) (sym (made s t within (omega (arith, before)))))
+      ∙ sym (combined s within))
+      ∙ xor_self (p s j) in
       same_from_xor (e i j) (sum_below j (λ t. mul F (c t) (e i t))) (unit_lower-zero m left d ones above elements none m i below below)

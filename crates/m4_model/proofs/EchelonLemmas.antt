@@ -34,11 +34,13 @@ front q j (suc n) rising within = at (front q j n rising (omega arith))
   where
     more : (n < length q) → (k : ℕ) → k ≡ n → ((i : ℕ) → i < k → slice_index q i < j) → (slice_index q n < j) ⊎ (j ≤ slice_index q n)
         → (k : ℕ) × (k ≤ suc n) × ((i : ℕ) → i < k → slice_index q i < j) × (k < suc n → j ≤ slice_index q k)
-    more here k all low (inl less) =
-        (suc n, omega arith,
-        λ i before. ⊎_elim (λ (sooner : i < k). low i sooner)
+    more here k all low (inl less) = (
+      suc n,
+      omega arith,
+      λ i before. ⊎_elim (λ (sooner : i < k). low i sooner)
           (λ (last : k ≤ i). let same : i ≡ n = omega (arith, last, before, all) in rw same less) (cases_lt i k),
-        λ before. absurd (omega (arith, before)))
+      λ before. absurd (omega (arith, before)),
+    )
     more here k all low (inr high) = (n, omega arith, λ i before. low i (omega (arith, before, all)), λ before. high)
 
     at : (k : ℕ) × (k ≤ n) × ((i : ℕ) → i < k → slice_index q i < j) × (k < n → j ≤ slice_index q k)
@@ -52,11 +54,15 @@ front q j (suc n) rising within = at (front q j n rising (omega arith))
 pub rising-front : (q : List ℕ) (j : ℕ) → IsRising q
     → (k : ℕ) × (k ≤ length q) × ((i : ℕ) → i < k → slice_index q i < j) × ((i : ℕ) → k ≤ i → i < length q → j ≤ slice_index q i)
 rising-front q j rising =
-    let found = front q j (length q) rising (omega arith) in
-    (found.0, found.1, found.2, λ i above within.
-    let first = found.3 (omega (arith, above, within)) in
-    let later = rising-le q found.0 i rising above within in
-    omega (arith, first, later))
+    let found = front q j (length q) rising (omega arith) in (
+      found.0,
+      found.1,
+      found.2,
+      λ i above within.
+          let first = found.3 (omega (arith, above, within)) in
+          let later = rising-le q found.0 i rising above within in
+          omega (arith, first, later),
+    )
 
 -- whether a number is in a list
 in_front : (q : List ℕ) (j n : ℕ) → n ≤ length q
@@ -69,8 +75,8 @@ in_front q j (suc n) within = ⊎_elim inl (λ none. at none (cases_order (slice
     at none (inl same) = inl (n, omega arith, same)
     at none (inr other) = inr (λ k before same. ⊎_elim (λ (sooner : k < n). none k sooner same)
         (λ (last : n ≤ k). let here : n ≡ k = omega (arith, last, before) in
-          let same_here : slice_index q n ≡ j = rw here same in
-          ⊎_elim (λ (less : slice_index q n < j). absurd (omega arith)) (λ (more : j < slice_index q n). absurd (omega arith)) other)
+        let same_here : slice_index q n ≡ j = rw here same in
+        ⊎_elim (λ (less : slice_index q n < j). absurd (omega arith)) (λ (more : j < slice_index q n). absurd (omega arith)) other)
         (cases_lt k n))
 
 pub place_of : (q : List ℕ) (j : ℕ) → ((k : ℕ) × (k < length q) × (slice_index q k ≡ j)) ⊎ ((k : ℕ) → k < length q → slice_index q k ≢ j)
@@ -95,9 +101,9 @@ module _ (E : Matrix) (laws : FieldLaws E.field) (is_matrix : IsMatrix E) (q : L
   pivot_combined k c within combined =
       let within_rows = echelon.within in
       echelon.nonzero k within
-        (combined k (omega arith)
-        ∙ sum_below-zero (slice_index q k) (λ t. mul E.field (c t) (at E k t))
-            (λ t before. ap (mul E.field (c t)) (echelon.before k t within before) ∙ laws.annihilates (c t)))
+      (combined k (omega arith)
+      ∙ sum_below-zero (slice_index q k) (λ t. mul E.field (c t) (at E k t))
+      (λ t before. ap (mul E.field (c t)) (echelon.before k t within before) ∙ laws.annihilates (c t)))
 
   -- a pivot column isn't free
   pub pivot_unfree : (k : ℕ) → k < length q → IsFree E (slice_index q k) → ⊥
@@ -114,11 +120,13 @@ module _ (E : Matrix) (laws : FieldLaws E.field) (is_matrix : IsMatrix E) (q : L
   pub spanned : (k : ℕ) → k ≤ length q → (b : ℕ → ℕ) → ((i : ℕ) → i < E.rows → IsElement E.field (b i))
       → ((i : ℕ) → k ≤ i → i < E.rows → b i ≡ 0) → (j : ℕ) → ((i : ℕ) → i < k → slice_index q i < j)
       → (c : ℕ → ℕ) × ((t : ℕ) → t < j → IsElement E.field (c t))
-          × ((i : ℕ) → i < E.rows → b i ≡ sum_below j (λ t. mul E.field (c t) (at E i t)))
-  spanned zero most b elements none j low =
-      (λ t. 0, λ t before. pow_pos E.field.degree,
-      λ i below. none i (omega arith) below
-      ∙ sym (sum_below-zero j (λ t. mul E.field 0 (at E i t)) (λ t before. mul-zero_left E.field laws (at E i t))))
+      × ((i : ℕ) → i < E.rows → b i ≡ sum_below j (λ t. mul E.field (c t) (at E i t)))
+  spanned zero most b elements none j low = (
+    λ t. 0,
+    λ t before. pow_pos E.field.degree,
+    λ i below. none i (omega arith) below
+        ∙ sym (sum_below-zero j (λ t. mul E.field 0 (at E i t)) (λ t before. mul-zero_left E.field laws (at E i t))),
+  )
   spanned (suc k) most b elements none j low =
       let F : Field = E.field in
       let p : ℕ = slice_index q k in
@@ -133,53 +141,54 @@ module _ (E : Matrix) (laws : FieldLaws E.field) (is_matrix : IsMatrix E) (q : L
       let x : ℕ = mul E.field inverse.0 (b k) in
       let x_in : IsElement E.field x = laws.closed inverse.0 (b k) inverse.1 (elements k in_rows) in
       let whole : mul E.field x entry ≡ b k
-          = laws.comm x entry ∙ sym (laws.assoc entry inverse.0 (b k)) ∙ ap (λ (y : ℕ). mul E.field y (b k)) inverse.2
-            ∙ laws.unit (b k) (elements k in_rows) in
+      = laws.comm x entry ∙ sym (laws.assoc entry inverse.0 (b k)) ∙ ap (λ (y : ℕ). mul E.field y (b k)) inverse.2
+      ∙ laws.unit (b k) (elements k in_rows) in
       let less : ℕ → ℕ = λ i. bit_xor (b i) (mul E.field x (at E i p)) in
       let less_in : (i : ℕ) → i < E.rows → IsElement E.field (less i)
-          = λ i below. xor_lt E.field.degree (b i) (mul E.field x (at E i p)) (elements i below)
-            (laws.closed x (at E i p) x_in (is_matrix.elements i p below in_cols)) in
+      = λ i below. xor_lt E.field.degree (b i) (mul E.field x (at E i p)) (elements i below)
+      (laws.closed x (at E i p) x_in (is_matrix.elements i p below in_cols)) in
       let less_none : (i : ℕ) → k ≤ i → i < E.rows → less i ≡ 0
-          = λ i from below. ⊎_elim
-            (λ (later : k < i).
-              ap₂ bit_xor (none i later below) (ap (mul E.field x) (pivot_below i k later below pivoted) ∙ laws.annihilates x) ∙ xor_zero_l 0)
-            (λ (here : i ≤ k). let same : i ≡ k = omega (arith, from, here) in
-              rw same (ap (bit_xor (b k)) whole ∙ xor_self (b k)))
-            (cases_lt k i) in
+      = λ i from below. ⊎_elim
+      (λ (later : k < i).
+      ap₂ bit_xor (none i later below) (ap (mul E.field x) (pivot_below i k later below pivoted) ∙ laws.annihilates x) ∙ xor_zero_l 0)
+      (λ (here : i ≤ k). let same : i ≡ k = omega (arith, from, here) in
+      rw same (ap (bit_xor (b k)) whole ∙ xor_self (b k)))
+      (cases_lt k i) in
       let rec = spanned k (omega arith) less less_in less_none p (λ i before. echelon.rising i k before pivoted) in
-      let c : ℕ → ℕ = extended p x rec.0 in
-      (c,
-      λ t before. ⊎_elim
-        (λ (same : t ≡ p). rw (same, extended-here p x rec.0) x_in)
-        (⊎_elim (λ (sooner : t < p). rw (extended-before p x rec.0 t sooner) (rec.1 t sooner))
-          (λ (later : p < t). rw (extended-after p x rec.0 t later) (pow_pos E.field.degree)))
-        (cases_order t p),
-      λ i below.
-        sym (sum_below-short (p + 1) j (λ t. mul E.field (c t) (at E i t)) (omega arith)
+      let c : ℕ → ℕ = extended p x rec.0 in (
+        c,
+        λ t before. ⊎_elim
+            (λ (same : t ≡ p). rw (same, extended-here p x rec.0) x_in)
+            (⊎_elim (λ (sooner : t < p). rw (extended-before p x rec.0 t sooner) (rec.1 t sooner))
+            (λ (later : p < t). rw (extended-after p x rec.0 t later) (pow_pos E.field.degree)))
+            (cases_order t p),
+        λ i below.
+            sym (sum_below-short (p + 1) j (λ t. mul E.field (c t) (at E i t)) (omega arith)
             (λ t from before. ap (λ (y : ℕ). mul E.field y (at E i t)) (extended-after p x rec.0 t (omega (arith, from))) ∙ mul-zero_left E.field laws (at E i t))
-          ∙ sum_below-more p (λ t. mul E.field (c t) (at E i t))
-          ∙ ap₂ bit_xor
-              (sum_below-same p (λ t. mul E.field (c t) (at E i t)) (λ t. mul E.field (rec.0 t) (at E i t))
-                (λ t sooner. ap (λ (y : ℕ). mul E.field y (at E i t)) (extended-before p x rec.0 t sooner))
-              ∙ sym (rec.2 i below))
-              (ap (λ (y : ℕ). mul E.field y (at E i p)) (extended-here p x rec.0))
-          ∙ xor_assoc (b i) (mul E.field x (at E i p)) (mul E.field x (at E i p))
-          ∙ ap (bit_xor (b i)) (xor_self (mul E.field x (at E i p)))
-          ∙ xor_zero_r (b i)))
+            ∙ sum_below-more p (λ t. mul E.field (c t) (at E i t))
+            ∙ ap₂ bit_xor
+            (sum_below-same p (λ t. mul E.field (c t) (at E i t)) (λ t. mul E.field (rec.0 t) (at E i t))
+            (λ t sooner. ap (λ (y : ℕ). mul E.field y (at E i t)) (extended-before p x rec.0 t sooner))
+            ∙ sym (rec.2 i below))
+            (ap (λ (y : ℕ). mul E.field y (at E i p)) (extended-here p x rec.0))
+            ∙ xor_assoc (b i) (mul E.field x (at E i p)) (mul E.field x (at E i p))
+            ∙ ap (bit_xor (b i)) (xor_self (mul E.field x (at E i p)))
+            ∙ xor_zero_r (b i)),
+      )
 
   -- any other column is free
   pub other_free : (j : ℕ) → j < E.cols → (Contains q j → ⊥) → IsFree E j
   other_free j in_cols other =
       let found = rising-front q j echelon.rising in
       let column = spanned found.0 found.1 (λ i. at E i j) (λ i below. is_matrix.elements i j below in_cols)
-          (λ i from below. ⊎_elim
-            (λ (pivoted : i < length q).
-              let high = found.3 i from pivoted in
-              echelon.before i j pivoted (⊎_elim (λ (same : j ≡ slice_index q i). absurd (other (Contains-entry q i j pivoted (sym same))))
-                (⊎_elim (λ (less : j < slice_index q i). less) (λ (more : slice_index q i < j). absurd (omega arith))) (cases_order j (slice_index q i))))
-            (λ (rest : length q ≤ i). echelon.below i j rest below in_cols)
-            (cases_lt i (length q)))
-          j found.2 in
+      (λ i from below. ⊎_elim
+      (λ (pivoted : i < length q).
+      let high = found.3 i from pivoted in
+      echelon.before i j pivoted (⊎_elim (λ (same : j ≡ slice_index q i). absurd (other (Contains-entry q i j pivoted (sym same))))
+      (⊎_elim (λ (less : j < slice_index q i). less) (λ (more : slice_index q i < j). absurd (omega arith))) (cases_order j (slice_index q i))))
+      (λ (rest : length q ≤ i). echelon.below i j rest below in_cols)
+      (cases_lt i (length q)))
+      j found.2 in
       record { coefficients = column.0; elements = column.1; combined = column.2 }
 
   -- the pivots of an echelon form are those of its list

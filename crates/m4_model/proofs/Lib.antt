@@ -6,5 +6,8 @@ pub mod DependenceLemmas
 pub mod ShapeLemmas
 pub mod EchelonLemmas
 pub mod RankLemmas
+pub mod RingLemmas
+pub mod BlockLemmas
+pub mod FormLemmas
 pub mod MatrixLemmas
 mod Examples

@@ -15,7 +15,7 @@ use Rattle.m4_model.proofs.ShapeLemmas.{at_shape, HasShape-own, IsElement-shape,
 use Rattle.m4_model.proofs.EchelonLemmas.{rising-le, place_of, pivots_of_echelon, Contains-entry}
 
 -- each number of p stands in q
-abbrev AreIn : List ℕ → List ℕ → Type 0
+abbrev pub AreIn : List ℕ → List ℕ → Type 0
 AreIn p q = (i : ℕ) → i < length p → (k : ℕ) × (k < length q) × (slice_index q k ≡ slice_index p i)
 
 module _ (p q : List ℕ) (p_rising : IsRising p) (q_rising : IsRising q) (p_in : AreIn p q) (q_in : AreIn q p) where
@@ -38,7 +38,7 @@ module _ (p q : List ℕ) (p_rising : IsRising p) (q_rising : IsRising q) (p_in 
           let same_here = found.2 in
           let same_back = back.2 in
           let low : back.0 < i = ⊎_elim (λ (less : back.0 < i). less)
-              (λ (more : i ≤ back.0). let grows = rising-le p i back.0 p_rising more back.1 in absurd (omega arith)) (cases_lt back.0 i) in
+          (λ (more : i ≤ back.0). let grows = rising-le p i back.0 p_rising more back.1 in absurd (omega arith)) (cases_lt back.0 i) in
           let same_there = (earlier back.0 low).1 in
           let rises_too = q_rising back.0 i low within_q in
           absurd (omega arith)
@@ -53,11 +53,11 @@ module _ (p q : List ℕ) (p_rising : IsRising p) (q_rising : IsRising q) (p_in 
 pub same_rising : (p q : List ℕ) → IsRising p → IsRising q → AreIn p q → AreIn q p → p ≡ q
 same_rising p q p_rising q_rising p_in q_in =
     let short : length p ≤ length q = ⊎_elim
-        (λ (longer : length q < length p). let here = (agree p q p_rising q_rising p_in q_in (length p) (length q) longer longer).0 in absurd (omega arith))
-        (λ (fits : length p ≤ length q). fits) (cases_lt (length q) (length p)) in
+    (λ (longer : length q < length p). let here = (agree p q p_rising q_rising p_in q_in (length p) (length q) longer longer).0 in absurd (omega arith))
+    (λ (fits : length p ≤ length q). fits) (cases_lt (length q) (length p)) in
     let long : length q ≤ length p = ⊎_elim
-        (λ (longer : length p < length q). let here = (agree q p q_rising p_rising q_in p_in (length q) (length p) longer longer).0 in absurd (omega arith))
-        (λ (fits : length q ≤ length p). fits) (cases_lt (length p) (length q)) in
+    (λ (longer : length p < length q). let here = (agree q p q_rising p_rising q_in p_in (length q) (length p) longer longer).0 in absurd (omega arith))
+    (λ (fits : length q ≤ length p). fits) (cases_lt (length p) (length q)) in
     same_lists p q (omega arith) (λ i d below.
     let found = agree p q p_rising q_rising p_in q_in (length p) i below below in
     get_or_default p i d 0 below ∙ sym found.1 ∙ get_or_default q i 0 d found.0)
@@ -71,7 +71,7 @@ pivots_in : (A : Matrix) (p q : List ℕ) → ArePivots A p → ArePivots A q �
 pivots_in A p q p_pivots q_pivots i within = ⊎_elim
     (λ (found : (k : ℕ) × (k < length q) × (slice_index q k ≡ slice_index p i)). found)
     (λ (none : (k : ℕ) → k < length q → slice_index q k ≢ slice_index p i).
-      absurd (p_pivots.unfree i within (q_pivots.others (slice_index p i) (p_pivots.columns i within) (Contains_none q (slice_index p i) none))))
+    absurd (p_pivots.unfree i within (q_pivots.others (slice_index p i) (p_pivots.columns i within) (Contains_none q (slice_index p i) none))))
     (place_of q (slice_index p i))
 
 -- there is at most one list of pivots
@@ -108,7 +108,7 @@ free-product {F} {m} {l} {n} {A} {B} laws a b made j within free =
       coefficients = given.coefficients;
       elements = given.elements;
       combined = Combined-times F laws m l (at A) (at B) (at (product A B)) j given.coefficients
-        (λ i t below before. at-product a b i t below (omega (arith, before, within))) given.combined;
+          (λ i t below before. at-product a b i t below (omega (arith, before, within))) given.combined;
     })
 
 -- two lists of columns of two matrices with the same free columns
@@ -130,13 +130,13 @@ module _ (A : Matrix) (p q : List ℕ) (r : ℕ) (L E : Matrix) (laws : FieldLaw
   free_from_e j within free =
       let given = dependent_from_free ple.e_shape j free in
       let through = Combined-times A.field laws A.rows A.rows (at L) (at E) (λ i t. at A (slice_index p i) t) j given.coefficients
-          (λ i t below before. private_row i t below (omega (arith, before, within))) given.combined in
+      (λ i t below before. private_row i t below (omega (arith, before, within))) given.combined in
       record {
         coefficients = given.coefficients;
         elements = given.elements;
         combined = λ i below.
-          let found = ple.order.onto i below in
-          subst (λ (i : ℕ). at A i j ≡ sum_below j (λ t. mul A.field (given.coefficients t) (at A i t))) found.2 (through found.0 found.1);
+            let found = ple.order.onto i below in
+            subst (λ (i : ℕ). at A i j ≡ sum_below j (λ t. mul A.field (given.coefficients t) (at A i t))) found.2 (through found.0 found.1);
       }
 
   -- what is free in A is free in E
@@ -148,12 +148,12 @@ module _ (A : Matrix) (p q : List ℕ) (r : ℕ) (L E : Matrix) (laws : FieldLaw
         coefficients = free.coefficients;
         elements = free.elements;
         combined = Combined_from_times A.field laws A.rows (at L) (at E) (λ i t. at A (slice_index p i) t) j free.coefficients
-          (λ i below. ple.l_form.diagonal i (omega (arith, below)))
-          (λ i s later below. ple.l_form.above i s later (omega (arith, below)))
-          free.elements
-          (λ i t below before. IsElement-shape ple.e_shape i t below (omega (arith, before, within)))
-          (λ i t below before. private_row i t below (omega (arith, before, within)))
-          (λ i below. free.combined (slice_index p i) (ple.order.below i below));
+            (λ i below. ple.l_form.diagonal i (omega (arith, below)))
+            (λ i s later below. ple.l_form.above i s later (omega (arith, below)))
+            free.elements
+            (λ i t below before. IsElement-shape ple.e_shape i t below (omega (arith, before, within)))
+            (λ i t below before. private_row i t below (omega (arith, before, within)))
+            (λ i below. free.combined (slice_index p i) (ple.order.below i below));
       })
 
   -- a PLE tells the pivots
@@ -162,7 +162,7 @@ module _ (A : Matrix) (p q : List ℕ) (r : ℕ) (L E : Matrix) (laws : FieldLaw
       let e_laws : FieldLaws E.field = subst FieldLaws (sym ple.e_shape.over) laws in
       let cols = ple.e_shape.cols in
       pivots_like A E q (sym cols) (λ j within free. free_in_e j (omega (arith, within)) free) (λ j within free. free_from_e j (omega (arith, within)) free)
-        (pivots_of_echelon E e_laws ple.e_shape.is_matrix q ple.e_form)
+      (pivots_of_echelon E e_laws ple.e_shape.is_matrix q ple.e_form)
 
   -- and the rank
   pub rank_of_ple : IsRank A r

@@ -29,15 +29,15 @@ module _ {F : Field} {m n : ℕ} {A : Matrix} where
   pub same_from_entries : HasShape F m n A → (g : ℕ → ℕ → ℕ) → ((i j : ℕ) → i < m → j < n → at A i j ≡ g i j) → A ≡ matrix_of F m n g
   same_from_entries shape g entries =
       same_matrix F m n g A shape.over shape.rows shape.cols (shape.is_matrix.height ∙ shape.rows)
-        (λ i below. let rows = shape.rows in shape.is_matrix.width i (omega (arith, below)) ∙ shape.cols) entries
+      (λ i below. let rows = shape.rows in shape.is_matrix.width i (omega (arith, below)) ∙ shape.cols) entries
 
   -- matrices of one shape with the same entries are equal
   pub same_entries : {B : Matrix} → HasShape F m n A → HasShape F m n B → ((i j : ℕ) → i < m → j < n → at A i j ≡ at B i j) → A ≡ B
   same_entries {B} a b entries =
       same_matrix F m n (at B) A a.over a.rows a.cols (a.is_matrix.height ∙ a.rows)
-        (λ i below. let rows = a.rows in a.is_matrix.width i (omega (arith, below)) ∙ a.cols) entries
+      (λ i below. let rows = a.rows in a.is_matrix.width i (omega (arith, below)) ∙ a.cols) entries
       ∙ sym (same_matrix F m n (at B) B b.over b.rows b.cols (b.is_matrix.height ∙ b.rows)
-        (λ i below. let rows = b.rows in b.is_matrix.width i (omega (arith, below)) ∙ b.cols) (λ i j in_rows in_cols. refl))
+      (λ i below. let rows = b.rows in b.is_matrix.width i (omega (arith, below)) ∙ b.cols) (λ i j in_rows in_cols. refl))
 
 -- a matrix has its own shape
 pub HasShape-own : (A : Matrix) → IsMatrix A → HasShape A.field A.rows A.cols A
@@ -80,12 +80,12 @@ module _ {F : Field} {m n : ℕ} {A B : Matrix} (a : HasShape F m n A) (b : HasS
   pub HasShape-added : HasShape F m n (added A B)
   HasShape-added =
       let sum : HasShape A.field A.rows A.cols (added A B)
-          = HasShape-matrix_of A.field A.rows A.cols (λ i j. bit_xor (at A i j) (at B i j)) a.is_matrix.over_field (λ i j in_rows in_cols.
-            let rows = a.rows in
-            let cols = a.cols in
-            let other : IsElement A.field (at B i j)
-                = subst (λ (F : Field). IsElement F (at B i j)) (sym a.over) (IsElement-shape b i j (omega (arith, in_rows)) (omega (arith, in_cols))) in
-            xor_lt A.field.degree (at A i j) (at B i j) (a.is_matrix.elements i j in_rows in_cols) other) in
+      = HasShape-matrix_of A.field A.rows A.cols (λ i j. bit_xor (at A i j) (at B i j)) a.is_matrix.over_field (λ i j in_rows in_cols.
+      let rows = a.rows in
+      let cols = a.cols in
+      let other : IsElement A.field (at B i j)
+      = subst (λ (F : Field). IsElement F (at B i j)) (sym a.over) (IsElement-shape b i j (omega (arith, in_rows)) (omega (arith, in_cols))) in
+      xor_lt A.field.degree (at A i j) (at B i j) (a.is_matrix.elements i j in_rows in_cols) other) in
       at_shape a (λ F m n. HasShape F m n (added A B)) sum
 
 module _ {F : Field} {m l n : ℕ} {A B : Matrix} (a : HasShape F m l A) (b : HasShape F l n B) where
@@ -94,18 +94,18 @@ module _ {F : Field} {m l n : ℕ} {A B : Matrix} (a : HasShape F m l A) (b : Ha
   at-product i j in_rows in_cols =
       let cols = b.cols in
       at_shape a (λ F m l. (i j : ℕ) → i < m → j < B.cols → at (product A B) i j ≡ times F l (at A) (at B) i j)
-        (at-table A.rows B.cols (times A.field A.cols (at A) (at B))) i j in_rows (omega (arith, in_cols))
+      (at-table A.rows B.cols (times A.field A.cols (at A) (at B))) i j in_rows (omega (arith, in_cols))
 
   -- the shape of a product
   pub HasShape-product : FieldLaws F → HasShape F m n (product A B)
   HasShape-product laws =
       let field : IsField F = IsField-shape a in
       let made : HasShape F m n (matrix_of F m n (times F l (at A) (at B)))
-          = HasShape-matrix_of F m n (times F l (at A) (at B)) field (λ i j in_rows in_cols.
-            IsElement-times F laws l (at A) (at B) i j (λ t below. IsElement-shape a i t in_rows below) (λ t below. IsElement-shape b t j below in_cols)) in
+      = HasShape-matrix_of F m n (times F l (at A) (at B)) field (λ i j in_rows in_cols.
+      IsElement-times F laws l (at A) (at B) i j (λ t below. IsElement-shape a i t in_rows below) (λ t below. IsElement-shape b t j below in_cols)) in
       let over : matrix_of A.field A.rows B.cols (times A.field A.cols (at A) (at B)) ≡ matrix_of F m n (times F l (at A) (at B))
-          = ap (λ (k : ℕ). matrix_of A.field A.rows k (times A.field A.cols (at A) (at B))) b.cols
-            ∙ at_shape a (λ F m l. matrix_of A.field A.rows n (times A.field A.cols (at A) (at B)) ≡ matrix_of F m n (times F l (at A) (at B))) refl in
+      = ap (λ (k : ℕ). matrix_of A.field A.rows k (times A.field A.cols (at A) (at B))) b.cols
+      ∙ at_shape a (λ F m l. matrix_of A.field A.rows n (times A.field A.cols (at A) (at B)) ≡ matrix_of F m n (times F l (at A) (at B))) refl in
       subst (HasShape F m n) (sym over) made
 
   -- a product is the matrix made of its entries
@@ -132,6 +132,6 @@ module _ {F : Field} {m n : ℕ} {A : Matrix} (a : HasShape F m n A) where
 pub HasShape-identity : (F : Field) (n : ℕ) → IsField F → 1 < 2 ^ F.degree → HasShape F n n (identity F n)
 HasShape-identity F n field one =
     HasShape-matrix_of F n n unit_at field (λ i j in_rows in_cols. ⊎_elim
-      (λ (same : i ≡ j). rw (unit_at-same i j same) one)
-      (λ (other : i ≢ j). rw (unit_at-other i j other) (pow_pos F.degree))
-      (cases_eq i j))
+    (λ (same : i ≡ j). rw (unit_at-same i j same) one)
+    (λ (other : i ≢ j). rw (unit_at-other i j other) (pow_pos F.degree))
+    (cases_eq i j))

@@ -1,0 +1,209 @@
+-- Products by blocks: of rows, of columns, of the inner index, of a part, and of rows in another order.
+use Rattle.std.proofs.Common.{◌≡◌, ◌≢◌, ℕ, ◌+◌, ◌-◌, ◌<◌, ◌≤◌, ◌^◌, ⊎_elim, refl, sym, ◌∙◌, ap, ap₂, subst, arith, bit_xor, cond, nat_lt, if◌then◌else◌}
+use Rattle.std.proofs.lemmas.Bool.{cases_lt, lt-ltb, le-ltb}
+use Rattle.m4_model.specs.Field.{Field, IsField, IsElement, sum_below, mul}
+use Rattle.m4_model.specs.Matrix.{Matrix, IsMatrix, HasShape, at, matrix_of, added, product}
+use Rattle.m4_model.specs.Shapes.{above, beside, cut}
+use Rattle.m4_model.proofs.FieldLaws.{FieldLaws}
+use Rattle.m4_model.proofs.MatrixLemmas.{at-table}
+use Rattle.m4_model.proofs.ProductLemmas.{times, times-same, times-split}
+use Rattle.m4_model.proofs.ShapeLemmas.{at_shape, IsField-shape, IsElement-shape, same_entries, HasShape-matrix_of, at-matrix_of, at-added, HasShape-added, at-product, HasShape-product}
+
+module _ {F : Field} {m k n : ℕ} {A B : Matrix} (a : HasShape F m n A) (b : HasShape F k n B) where
+  -- the entries of one matrix over another
+  entry_above : (i j : ℕ) → i < m + k → j < n → at (above A B) i j ≡ (if nat_lt i m then at A i j else at B (i - m) j)
+  entry_above =
+      let rows = b.rows in
+      let own = at_shape a (λ F m n. (i j : ℕ) → i < m + B.rows → j < n → at (above A B) i j ≡ (if nat_lt i m then at A i j else at B (i - m) j))
+      (at-table (A.rows + B.rows) A.cols (λ i j. if nat_lt i A.rows then at A i j else at B (i - A.rows) j)) in
+      λ i j in_rows in_cols. own i j (omega (arith, in_rows)) in_cols
+
+  -- in its upper rows
+  pub at-above_top : (i j : ℕ) → i < m → j < n → at (above A B) i j ≡ at A i j
+  at-above_top i j in_rows in_cols = entry_above i j (omega (arith, in_rows)) in_cols ∙ rw (lt-ltb i m in_rows) refl
+
+  -- in its lower rows
+  pub at-above_bottom : (i j : ℕ) → i < k → j < n → at (above A B) (m + i) j ≡ at B i j
+  at-above_bottom i j in_rows in_cols =
+      let back : m + i - m ≡ i = omega arith in
+      entry_above (m + i) j (omega (arith, in_rows)) in_cols ∙ rw (le-ltb (m + i) m (omega arith), back) refl
+
+  -- its shape
+  pub HasShape-above : HasShape F (m + k) n (above A B)
+  HasShape-above =
+      let rows = b.rows in
+      let elements : (i j : ℕ) → i < m + k → j < n → IsElement F (if nat_lt i m then at A i j else at B (i - m) j)
+      = λ i j in_rows in_cols. ⊎_elim
+      (λ (upper : i < m). rw (lt-ltb i m upper) (IsElement-shape a i j upper in_cols))
+      (λ (lower : m ≤ i). rw (le-ltb i m lower) (IsElement-shape b (i - m) j (omega (arith, in_rows, lower)) in_cols))
+      (cases_lt i m) in
+      let made : HasShape F (m + k) n (matrix_of F (m + k) n (λ i j. if nat_lt i m then at A i j else at B (i - m) j))
+      = HasShape-matrix_of F (m + k) n (λ i j. if nat_lt i m then at A i j else at B (i - m) j) (IsField-shape a) elements in
+      let same : above A B ≡ matrix_of F (m + k) n (λ i j. if nat_lt i m then at A i j else at B (i - m) j)
+      = ap (λ (k : ℕ). matrix_of A.field (A.rows + k) A.cols (λ i j. if nat_lt i A.rows then at A i j else at B (i - A.rows) j)) rows
+      ∙ at_shape a (λ F m n. matrix_of A.field (A.rows + k) A.cols (λ i j. if nat_lt i A.rows then at A i j else at B (i - A.rows) j)
+      ≡ matrix_of F (m + k) n (λ i j. if nat_lt i m then at A i j else at B (i - m) j)) refl in
+      subst (HasShape F (m + k) n) (sym same) made
+
+module _ {F : Field} {m k n : ℕ} {A B : Matrix} (a : HasShape F m k A) (b : HasShape F m n B) where
+  -- the entries of one matrix beside another
+  entry_beside : (i j : ℕ) → i < m → j < k + n → at (beside A B) i j ≡ (if nat_lt j k then at A i j else at B i (j - k))
+  entry_beside =
+      let cols = b.cols in
+      let own = at_shape a (λ F m k. (i j : ℕ) → i < m → j < k + B.cols → at (beside A B) i j ≡ (if nat_lt j k then at A i j else at B i (j - k)))
+      (at-table A.rows (A.cols + B.cols) (λ i j. if nat_lt j A.cols then at A i j else at B i (j - A.cols))) in
+      λ i j in_rows in_cols. own i j in_rows (omega (arith, in_cols))
+
+  -- in its left columns
+  pub at-beside_left : (i j : ℕ) → i < m → j < k → at (beside A B) i j ≡ at A i j
+  at-beside_left i j in_rows in_cols = entry_beside i j in_rows (omega (arith, in_cols)) ∙ rw (lt-ltb j k in_cols) refl
+
+  -- in its right columns
+  pub at-beside_right : (i j : ℕ) → i < m → j < n → at (beside A B) i (k + j) ≡ at B i j
+  at-beside_right i j in_rows in_cols =
+      let back : k + j - k ≡ j = omega arith in
+      entry_beside i (k + j) in_rows (omega (arith, in_cols)) ∙ rw (le-ltb (k + j) k (omega arith), back) refl
+
+  -- its shape
+  pub HasShape-beside : HasShape F m (k + n) (beside A B)
+  HasShape-beside =
+      let cols = b.cols in
+      let elements : (i j : ℕ) → i < m → j < k + n → IsElement F (if nat_lt j k then at A i j else at B i (j - k))
+      = λ i j in_rows in_cols. ⊎_elim
+      (λ (left : j < k). rw (lt-ltb j k left) (IsElement-shape a i j in_rows left))
+      (λ (right : k ≤ j). rw (le-ltb j k right) (IsElement-shape b i (j - k) in_rows (omega (arith, in_cols, right))))
+      (cases_lt j k) in
+      let made : HasShape F m (k + n) (matrix_of F m (k + n) (λ i j. if nat_lt j k then at A i j else at B i (j - k)))
+      = HasShape-matrix_of F m (k + n) (λ i j. if nat_lt j k then at A i j else at B i (j - k)) (IsField-shape a) elements in
+      let same : beside A B ≡ matrix_of F m (k + n) (λ i j. if nat_lt j k then at A i j else at B i (j - k))
+      = ap (λ (n : ℕ). matrix_of A.field A.rows (A.cols + n) (λ i j. if nat_lt j A.cols then at A i j else at B i (j - A.cols))) cols
+      ∙ at_shape a (λ F m k. matrix_of A.field A.rows (A.cols + n) (λ i j. if nat_lt j A.cols then at A i j else at B i (j - A.cols))
+      ≡ matrix_of F m (k + n) (λ i j. if nat_lt j k then at A i j else at B i (j - k))) refl in
+      subst (HasShape F m (k + n)) (sym same) made
+
+-- matrices with the same upper rows and the same lower rows are equal
+pub same_rows : {F : Field} {m k n : ℕ} {A B : Matrix} → HasShape F (m + k) n A → HasShape F (m + k) n B
+    → ((i j : ℕ) → i < m → j < n → at A i j ≡ at B i j) → ((i j : ℕ) → i < k → j < n → at A (m + i) j ≡ at B (m + i) j) → A ≡ B
+same_rows {F} {m} {k} {n} {A} {B} a b top bottom = same_entries a b (λ i j in_rows in_cols. ⊎_elim
+    (λ (upper : i < m). top i j upper in_cols)
+    (λ (lower : m ≤ i). let place : m + (i - m) ≡ i = omega (arith, lower) in
+    subst (λ (i : ℕ). at A i j ≡ at B i j) place (bottom (i - m) j (omega (arith, in_rows, lower)) in_cols))
+    (cases_lt i m))
+
+-- matrices with the same left columns and the same right columns are equal
+pub same_cols : {F : Field} {m k n : ℕ} {A B : Matrix} → HasShape F m (k + n) A → HasShape F m (k + n) B
+    → ((i j : ℕ) → i < m → j < k → at A i j ≡ at B i j) → ((i j : ℕ) → i < m → j < n → at A i (k + j) ≡ at B i (k + j)) → A ≡ B
+same_cols {F} {m} {k} {n} {A} {B} a b first second = same_entries a b (λ i j in_rows in_cols. ⊎_elim
+    (λ (left : j < k). first i j in_rows left)
+    (λ (right : k ≤ j). let place : k + (j - k) ≡ j = omega (arith, right) in
+    subst (λ (j : ℕ). at A i j ≡ at B i j) place (second i (j - k) in_rows (omega (arith, in_cols, right))))
+    (cases_lt j k))
+
+module _ {F : Field} (laws : FieldLaws F) {m k l n : ℕ} {A B C : Matrix} where
+  -- a product by blocks of rows
+  pub product-above : HasShape F m l A → HasShape F k l B → HasShape F l n C → product (above A B) C ≡ above (product A C) (product B C)
+  product-above a b c =
+      let ab = HasShape-above a b in
+      let ac = HasShape-product a c laws in
+      let bc = HasShape-product b c laws in
+      same_rows (HasShape-product ab c laws) (HasShape-above ac bc)
+      (λ i j in_rows in_cols.
+      at-product ab c i j (omega (arith, in_rows)) in_cols
+      ∙ times-same F l (at (above A B)) (at C) (at A) (at C) i j i j (λ t below. at-above_top a b i t in_rows below) (λ t below. refl)
+      ∙ sym (at-product a c i j in_rows in_cols)
+      ∙ sym (at-above_top ac bc i j in_rows in_cols))
+      (λ i j in_rows in_cols.
+      at-product ab c (m + i) j (omega (arith, in_rows)) in_cols
+      ∙ times-same F l (at (above A B)) (at C) (at B) (at C) (m + i) j i j (λ t below. at-above_bottom a b i t in_rows below) (λ t below. refl)
+      ∙ sym (at-product b c i j in_rows in_cols)
+      ∙ sym (at-above_bottom ac bc i j in_rows in_cols))
+
+  -- a product by blocks of columns
+  pub product-beside : HasShape F m l A → HasShape F l k B → HasShape F l n C → product A (beside B C) ≡ beside (product A B) (product A C)
+  product-beside a b c =
+      let bc = HasShape-beside b c in
+      let ab = HasShape-product a b laws in
+      let ac = HasShape-product a c laws in
+      same_cols (HasShape-product a bc laws) (HasShape-beside ab ac)
+      (λ i j in_rows in_cols.
+      at-product a bc i j in_rows (omega (arith, in_cols))
+      ∙ times-same F l (at A) (at (beside B C)) (at A) (at B) i j i j (λ t below. refl) (λ t below. at-beside_left b c t j below in_cols)
+      ∙ sym (at-product a b i j in_rows in_cols)
+      ∙ sym (at-beside_left ab ac i j in_rows in_cols))
+      (λ i j in_rows in_cols.
+      at-product a bc i (k + j) in_rows (omega (arith, in_cols))
+      ∙ times-same F l (at A) (at (beside B C)) (at A) (at C) i (k + j) i j (λ t below. refl) (λ t below. at-beside_right b c t j below in_cols)
+      ∙ sym (at-product a c i j in_rows in_cols)
+      ∙ sym (at-beside_right ab ac i j in_rows in_cols))
+
+  -- a product by blocks of the inner index is a sum of products
+  pub product-blocks : {D : Matrix} → HasShape F m k A → HasShape F m l B → HasShape F k n C → HasShape F l n D
+      → product (beside A B) (above C D) ≡ added (product A C) (product B D)
+  product-blocks {D} a b c d =
+      let ab = HasShape-beside a b in
+      let cd = HasShape-above c d in
+      let ac = HasShape-product a c laws in
+      let bd = HasShape-product b d laws in
+      same_entries (HasShape-product ab cd laws) (HasShape-added ac bd) (λ i j in_rows in_cols.
+      at-product ab cd i j in_rows in_cols
+      ∙ times-split F laws k l (at (beside A B)) (at (above C D)) i j
+      ∙ ap₂ bit_xor
+      (times-same F k (at (beside A B)) (at (above C D)) (at A) (at C) i j i j
+      (λ t below. at-beside_left a b i t in_rows below) (λ t below. at-above_top c d t j below in_cols)
+      ∙ sym (at-product a c i j in_rows in_cols))
+      (times-same F l (λ s t. at (beside A B) s (k + t)) (λ t s. at (above C D) (k + t) s) (at B) (at D) i j i j
+      (λ t below. at-beside_right a b i t in_rows below) (λ t below. at-above_bottom c d t j below in_cols)
+      ∙ sym (at-product b d i j in_rows in_cols))
+      ∙ sym (at-added ac bd i j in_rows in_cols))
+
+-- the rows of A in the order p
+abbrev pub picked_rows : Matrix → (ℕ → ℕ) → Matrix
+picked_rows A p = matrix_of A.field A.rows A.cols (λ i j. at A (p i) j)
+
+-- the columns of A in the order c
+abbrev pub picked_cols : Matrix → (ℕ → ℕ) → Matrix
+picked_cols A c = matrix_of A.field A.rows A.cols (λ i j. at A i (c j))
+
+module _ {F : Field} {m n : ℕ} {A : Matrix} (a : HasShape F m n A) (p : ℕ → ℕ) where
+  -- rows in another order
+  pub at-picked_rows : (i j : ℕ) → i < m → j < n → at (picked_rows A p) i j ≡ at A (p i) j
+  at-picked_rows = at_shape a (λ F m n. (i j : ℕ) → i < m → j < n → at (picked_rows A p) i j ≡ at A (p i) j)
+      (at-table A.rows A.cols (λ i j. at A (p i) j))
+
+  pub HasShape-picked_rows : ((i : ℕ) → i < m → p i < m) → HasShape F m n (picked_rows A p)
+  HasShape-picked_rows = at_shape a (λ F m n. ((i : ℕ) → i < m → p i < m) → HasShape F m n (picked_rows A p))
+      (λ below. HasShape-matrix_of A.field A.rows A.cols (λ i j. at A (p i) j) a.is_matrix.over_field
+      (λ i j in_rows in_cols. a.is_matrix.elements (p i) j (below i in_rows) in_cols))
+
+  -- columns in another order
+  pub at-picked_cols : (i j : ℕ) → i < m → j < n → at (picked_cols A p) i j ≡ at A i (p j)
+  at-picked_cols = at_shape a (λ F m n. (i j : ℕ) → i < m → j < n → at (picked_cols A p) i j ≡ at A i (p j))
+      (at-table A.rows A.cols (λ i j. at A i (p j)))
+
+  pub HasShape-picked_cols : ((j : ℕ) → j < n → p j < n) → HasShape F m n (picked_cols A p)
+  HasShape-picked_cols = at_shape a (λ F m n. ((j : ℕ) → j < n → p j < n) → HasShape F m n (picked_cols A p))
+      (λ below. HasShape-matrix_of A.field A.rows A.cols (λ i j. at A i (p j)) a.is_matrix.over_field
+      (λ i j in_rows in_cols. a.is_matrix.elements i (p j) in_rows (below j in_cols)))
+
+module _ {F : Field} (laws : FieldLaws F) {m l n : ℕ} {A B : Matrix} (a : HasShape F m l A) (b : HasShape F l n B) (p : ℕ → ℕ) where
+  -- the rows of a product go as those of its left factor
+  pub product-picked_rows : ((i : ℕ) → i < m → p i < m) → product (picked_rows A p) B ≡ picked_rows (product A B) p
+  product-picked_rows below =
+      let moved = HasShape-picked_rows a p below in
+      let ab = HasShape-product a b laws in
+      same_entries (HasShape-product moved b laws) (HasShape-picked_rows ab p below) (λ i j in_rows in_cols.
+      at-product moved b i j in_rows in_cols
+      ∙ times-same F l (at (picked_rows A p)) (at B) (at A) (at B) i j (p i) j (λ t within. at-picked_rows a p i t in_rows within) (λ t within. refl)
+      ∙ sym (at-product a b (p i) j (below i in_rows) in_cols)
+      ∙ sym (at-picked_rows ab p i j in_rows in_cols))
+
+  -- the columns of a product go as those of its right factor
+  pub product-picked_cols : ((j : ℕ) → j < n → p j < n) → product A (picked_cols B p) ≡ picked_cols (product A B) p
+  product-picked_cols below =
+      let moved = HasShape-picked_cols b p below in
+      let ab = HasShape-product a b laws in
+      same_entries (HasShape-product a moved laws) (HasShape-picked_cols ab p below) (λ i j in_rows in_cols.
+      at-product a moved i j in_rows in_cols
+      ∙ times-same F l (at A) (at (picked_cols B p)) (at A) (at B) i j i (p j) (λ t within. refl) (λ t within. at-picked_cols b p t j within in_cols)
+      ∙ sym (at-product a b i (p j) in_rows (below j in_cols))
+      ∙ sym (at-picked_cols ab p i j in_rows in_cols))
