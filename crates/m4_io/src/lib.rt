@@ -1,0 +1,15 @@
+//! Where bytes come from and go to: files to read and streams to write, in memory and real ones.
+//!
+//! `Shelf` and `Sink` say what reading and writing mean, with the bytes where they are told. `read_whole` and
+//! `write_whole` move a whole file and a whole text, and are proved once for every shelf and sink.
+#![tactic(auto)]
+
+mod failed;
+mod shelf;
+mod sink;
+mod whole;
+
+pub use failed::Failed;
+pub use shelf::Shelf;
+pub use sink::Sink;
+pub use whole::{PIECE, ReadFault, read_whole, write_whole};
