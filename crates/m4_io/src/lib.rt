@@ -4,12 +4,17 @@
 //! `write_whole` move a whole file and a whole text, and are proved once for every shelf and sink.
 #![tactic(auto)]
 
+mod calls;
 mod failed;
+mod mem_shelf;
+mod mem_sink;
 mod shelf;
 mod sink;
 mod whole;
 
 pub use failed::Failed;
+pub use mem_shelf::MemShelf;
+pub use mem_sink::MemSink;
 pub use shelf::Shelf;
 pub use sink::Sink;
 pub use whole::{PIECE, ReadFault, read_whole, write_whole};
