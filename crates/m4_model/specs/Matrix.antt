@@ -1,7 +1,7 @@
 -- Matrices over a field, their entries, and their sum and product.
-use Rattle.std.specs.Prelude.{◌≡◌, ℕ, ◌+◌, ◌^◌, ◌<◌, ◌≤◌, List, [], ◌∷◌, map, length, bit_xor, slice_index, slice_index_or, slice_set, ◌==◌, if◌then◌else◌}
+use Rattle.std.specs.Prelude.{◌≡◌, ℕ, ◌<◌, List, [], ◌∷◌, map, length, bit_xor, slice_index, slice_index_or, slice_set, ◌==◌, if◌then◌else◌}
 use Rattle.std.specs.List.{range_with_len}
-use Rattle.m4_model.specs.Field.{Field, IsField, IsElement, gf2, sum_below, mul}
+use Rattle.m4_model.specs.Field.{Field, IsField, IsElement, sum_below, mul}
 
 -- A field, a number of rows, a number of columns, and the rows of entries.
 pub record Matrix : Type 0 where
