@@ -6,15 +6,21 @@
 
 mod calls;
 mod failed;
+mod file_shelf;
 mod mem_shelf;
 mod mem_sink;
 mod shelf;
 mod sink;
+mod stream_sink;
+#[cfg(test)]
+mod tests;
 mod whole;
 
 pub use failed::Failed;
+pub use file_shelf::FileShelf;
 pub use mem_shelf::MemShelf;
 pub use mem_sink::MemSink;
 pub use shelf::Shelf;
 pub use sink::Sink;
+pub use stream_sink::StreamSink;
 pub use whole::{PIECE, ReadFault, read_whole, write_whole};
