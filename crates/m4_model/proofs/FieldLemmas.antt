@@ -1,8 +1,8 @@
 -- Sums and products of elements: what holds of every field, and what holds over GF(2).
-use Rattle.std.proofs.Common.{◌≡◌, ℕ, zero, suc, ◌+◌, ◌*◌, ◌^◌, ◌<◌, ◌≤◌, refl, sym, ◌∙◌, ap, arith, inl, bit_xor, add-one}
+use Rattle.std.proofs.Common.{◌≡◌, ℕ, zero, suc, ◌+◌, ◌*◌, ◌^◌, ◌<◌, refl, arith, inl, bit_xor, add-one}
 use Rattle.std.specs.Int.Bits.{xor_lt}
 use Rattle.std.proofs.Math.Pow.{pow_pos}
-use Rattle.m4_model.specs.Field.{Field, IsField, gf2, sum_below, mul, clmul, rem_within, bits_within}
+use Rattle.m4_model.specs.Field.{IsField, gf2, sum_below, mul, clmul, rem_within, bits_within}
 
 -- a sum of one term more
 pub sum_below-more : (n : ℕ) (g : ℕ → ℕ) → sum_below (n + 1) g ≡ bit_xor (sum_below n g) (g n)

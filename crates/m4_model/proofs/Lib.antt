@@ -10,4 +10,8 @@ pub mod RingLemmas
 pub mod BlockLemmas
 pub mod FormLemmas
 pub mod MatrixLemmas
+pub mod Polynomials
+pub mod Division
+pub mod Remainder
+pub mod FieldProofs
 mod Examples

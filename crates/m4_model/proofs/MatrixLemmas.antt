@@ -1,10 +1,10 @@
 -- Entries, rows and shapes of matrices made entry by entry, and equality of matrices by their entries.
-use Rattle.std.proofs.Common.{◌≡◌, ℕ, zero, suc, ◌+◌, ◌<◌, ◌≤◌, List, [], ◌∷◌, length, get_or, map, refl, sym, ◌∙◌, ap, arith, set}
+use Rattle.std.proofs.Common.{◌≡◌, ℕ, ◌<◌, List, [], length, get_or, map, sym, ◌∙◌, arith}
 use Rattle.std.specs.List.{range_with_len}
 use Rattle.std.proofs.lemmas.List.FromFn.{length-map-range_with_len, get_or-map-range_with_len}
-use Rattle.std.proofs.lemmas.List.{same_lists, length-set, get_or-set_same, get_or-set_other, get_or_default}
+use Rattle.std.proofs.lemmas.List.{same_lists, get_or_default}
 use Rattle.m4_model.specs.Field.{Field, IsField, IsElement}
-use Rattle.m4_model.specs.Matrix.{Matrix, IsMatrix, row, at, table, matrix_of, with_row, row_sum}
+use Rattle.m4_model.specs.Matrix.{Matrix, IsMatrix, row, at, table, matrix_of}
 
 -- a table has as many rows as said
 pub length-table : (m n : ℕ) (g : ℕ → ℕ → ℕ) → length (table m n g) ≡ m

@@ -1,5 +1,5 @@
 -- What a run of the program has to answer: its status and its text, from its words and the files at hand.
-use Rattle.std.specs.Prelude.{◌≡◌, ℕ, ◌+◌, ◌⊎◌, List, [], ◌∷◌, ◌++◌, length, Option, Some, None, option_map, find, bytes_eq, Result, Ok, Err, codes, decimal}
+use Rattle.std.specs.Prelude.{◌≡◌, ℕ, ◌+◌, ◌⊎◌, List, [], ◌∷◌, ◌++◌, length, Option, Some, None, option_map, find, bytes_eq, Ok, Err, codes, decimal}
 use Rattle.m4_model.specs.Matrix.{Matrix, product}
 use Rattle.m4_model.specs.Text.{text, Reads, Refusal, Fault, BadAt, PastLimit, IsWithinLimits}
 use Rattle.m4_model.specs.Words.{Command, Mul, Task, job}

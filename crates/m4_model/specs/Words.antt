@@ -1,5 +1,5 @@
 -- The words of a command line, and the job that they ask for.
-use Rattle.std.specs.Prelude.{◌≡◌, ℕ, zero, suc, List, [], ◌∷◌, Result, Ok, Err, codes, bytes_eq, Bool, if◌then◌else◌}
+use Rattle.std.specs.Prelude.{ℕ, zero, suc, List, [], ◌∷◌, Result, Ok, Err, codes, bytes_eq, Bool, if◌then◌else◌}
 use Rattle.std.specs.List.{starts_with}
 use Rattle.std.specs.Prelude.{nat_eq}
 

@@ -4,8 +4,10 @@
 //! speaks of machine words, masks or loops. `docs/DEFINITIONS.md` says each one in words.
 #![tactic(auto)]
 
+mod field_laws;
 mod no_memory;
 mod status;
 
+pub use field_laws::law_field;
 pub use no_memory::NoMemory;
 pub use status::Status;

@@ -1,0 +1,122 @@
+-- The bits of a written word, of a sum of rows and of a masked row.
+use Rattle.std.proofs.Common.{eqb, ◌≡◌, ◌≢◌, ℕ, zero, suc, ◌+◌, ◌-◌, ◌/◌, ◌%◌, ◌^◌, ◌<◌, ◌≤◌, inl, inr, List, [], ◌∷◌, length, get_or, set, refl, sym, ◌∙◌, ap, arith, bit_xor, bit_and}
+use Rattle.std.specs.Int.{bit_at}
+use Rattle.std.proofs.lemmas.Nat.{xor_shr, xor_mod}
+use Rattle.std.proofs.lemmas.Nat.Bits.{bit_at_and, bit_at_ones, bit_at_ones_above, bit_at-lt, bit_at-zero}
+use Rattle.std.proofs.lemmas.List.{length-set, get_or-set_same, get_or-set_other, get_or_past, ext_get_or}
+use Rattle.std.proofs.lemmas.Bool.{cases_eq, cases_lt, cond_both, eqb-true, eqb-false}
+use Rattle.m4_model.specs.Matrix.{row_sum}
+use Rattle.m4_model.specs.Text.{words_per_row}
+use Rattle.m4_bits.specs.Bits.{bit, last_bits, masked}
+
+-- the bits in use of the last word, without a case
+pub last_bits-is : (cols : ℕ) → last_bits cols ≡ (cols + 63) % 64 + 1
+last_bits-is cols =
+    cond_both (eqb (cols % 64) 0) 64 (cols % 64) (λ used. used ≡ (cols + 63) % 64 + 1)
+    (λ is. let none = eqb-true (cols % 64) 0 is in omega arith)
+    (λ is. let some = eqb-false (cols % 64) 0 is in omega (arith, some))
+
+-- one bit of a sum of words
+pub bit_at-xor : (a b i : ℕ) → bit_at (bit_xor a b) i ≡ bit_xor (bit_at a i) (bit_at b i)
+bit_at-xor a b i = rw (xor_shr a b i) (xor_mod (a / 2 ^ i) (b / 2 ^ i) 1)
+
+-- a bit below a mask's end stays
+pub bit_at-mask_below : (w n i : ℕ) → i < n → bit_at (bit_and w (2 ^ n - 1)) i ≡ bit_at w i
+bit_at-mask_below w n i below =
+    bit_at_and w (2 ^ n - 1) i ∙ (let one = bit_at_ones n i below in rw one (let small = bit_at-lt w i in omega arith))
+
+-- a bit from a mask's end on is gone
+pub bit_at-mask_past : (w n i : ℕ) → n ≤ i → bit_at (bit_and w (2 ^ n - 1)) i ≡ 0
+bit_at-mask_past w n i past =
+    bit_at_and w (2 ^ n - 1) i ∙ (let none = bit_at_ones_above n i past in rw none (omega arith))
+
+-- a bit is 0 or 1
+pub bit-lt : (row : List ℕ) (j : ℕ) → bit row j < 2
+bit-lt row j = bit_at-lt (get_or row (j / 64) 0) (j % 64)
+
+-- past the last word there is no bit
+pub bit_past : (row : List ℕ) (j : ℕ) → length row ≤ j / 64 → bit row j ≡ 0
+bit_past row j past = rw (get_or_past row (j / 64) 0 past) (bit_at-zero (j % 64))
+
+-- a written word: the bit in it
+pub bit-set_same : (row : List ℕ) (j w : ℕ) → j / 64 < length row → bit (set row (j / 64) w) j ≡ bit_at w (j % 64)
+bit-set_same row j w within = rw (get_or-set_same row (j / 64) w 0 within) refl
+
+-- a written word: every other bit, where the word's own other bits stay
+pub bit-set_other : (row : List ℕ) (j k w : ℕ) → j / 64 < length row → k ≢ j
+    → ((i : ℕ) → i < 64 → i ≢ j % 64 → bit_at w i ≡ bit_at (get_or row (j / 64) 0) i) → bit (set row (j / 64) w) k ≡ bit row k
+bit-set_other row j k w within other same =
+    elim (cases_eq (k / 64) (j / 64)) [
+      | inl here ↦
+          rw here (rw (get_or-set_same row (j / 64) w 0 within)
+          (same (k % 64) (omega arith) (λ is. other (omega (arith, here, is)))))
+      | inr there ↦ rw (get_or-set_other row (j / 64) (k / 64) w 0 there) refl
+    ]
+
+-- a sum of rows is as long as its first
+pub length-row_sum : (xs ys : List ℕ) → length (row_sum xs ys) ≡ length xs
+length-row_sum [] ys = refl
+length-row_sum (x ∷ xs) [] = refl
+length-row_sum (x ∷ xs) (y ∷ ys) = ap suc (length-row_sum xs ys)
+
+-- its entries
+pub get_or-row_sum : (xs ys : List ℕ) (k : ℕ) → length xs ≡ length ys → get_or (row_sum xs ys) k 0 ≡ bit_xor (get_or xs k 0) (get_or ys k 0)
+get_or-row_sum [] [] k same = refl
+get_or-row_sum [] (y ∷ ys) k same = absurd (omega arith)
+get_or-row_sum (x ∷ xs) [] k same = absurd (omega arith)
+get_or-row_sum (x ∷ xs) (y ∷ ys) zero same = refl
+get_or-row_sum (x ∷ xs) (y ∷ ys) (suc k) same = get_or-row_sum xs ys k (omega arith)
+
+-- a bit of a sum of rows of words is the sum of the bits
+pub bit-row_sum : (xs ys : List ℕ) (j : ℕ) → length xs ≡ length ys → bit (row_sum xs ys) j ≡ bit_xor (bit xs j) (bit ys j)
+bit-row_sum xs ys j same =
+    rw (get_or-row_sum xs ys (j / 64) same) (bit_at-xor (get_or xs (j / 64) 0) (get_or ys (j / 64) 0) (j % 64))
+
+-- a masked row is as long as before
+pub length-masked : (words : List ℕ) (mask : ℕ) → length (masked words mask) ≡ length words
+length-masked words mask = length-set words _ _
+
+-- a masked row keeps the bits of its columns
+pub bit-masked_below : (words : List ℕ) (cols j : ℕ) → length words ≡ words_per_row cols → j < cols
+    → bit (masked words (2 ^ last_bits cols - 1)) j ≡ bit words j
+bit-masked_below words cols j long below =
+    elim (cases_eq (j / 64) (length words - 1)) [
+      | inl last ↦
+          rw last (rw (get_or-set_same words (length words - 1) _ 0 (omega arith))
+          (bit_at-mask_below _ (last_bits cols) (j % 64) (rw (last_bits-is cols) (omega (arith, last)))))
+      | inr before ↦ rw (get_or-set_other words (length words - 1) (j / 64) _ 0 before) refl
+    ]
+
+-- a masked row has no bit past its columns
+pub bit-masked_past : (words : List ℕ) (cols j : ℕ) → length words ≡ words_per_row cols → cols ≤ j
+    → bit (masked words (2 ^ last_bits cols - 1)) j ≡ 0
+bit-masked_past words cols j long past =
+    elim (cases_lt (j / 64) (length words)) [
+      | inl within ↦
+          let last : j / 64 ≡ length words - 1 = omega arith in
+          rw last (rw (get_or-set_same words (length words - 1) _ 0 (omega arith))
+          (bit_at-mask_past _ (last_bits cols) (j % 64) (rw (last_bits-is cols) (omega (arith, last)))))
+      | inr outside ↦ bit_past (masked words (2 ^ last_bits cols - 1)) j (rw (length-masked words (2 ^ last_bits cols - 1)) outside)
+    ]
+
+-- a sum of rows word by word, the last one under the mask
+pub added_masked : (old now src : List ℕ) (last end : ℕ) → end + 1 ≡ length old → length now ≡ length old → length old ≡ length src
+    → ((i : ℕ) → i < end → get_or now i 0 ≡ bit_xor (get_or old i 0) (get_or src i 0))
+    → ((i : ℕ) → end ≤ i → get_or now i 0 ≡ get_or old i 0)
+    → set now end (bit_xor (get_or now end 0) (bit_and (get_or src end 0) last)) ≡ row_sum old (masked src last)
+added_masked old now src last end ends long same added kept =
+    let e : length src - 1 ≡ end = omega arith in
+    let longer : length old ≡ length (masked src last) = same ∙ sym (length-masked src last) in
+    let heights : length (set now end (bit_xor (get_or now end 0) (bit_and (get_or src end 0) last))) ≡ length (row_sum old (masked src last)) =
+    length-set now end _ ∙ (long ∙ sym (length-row_sum old (masked src last))) in
+    ext_get_or 0 _ _ heights (λ i within.
+    let inside : i < length old = omega (arith, length-set now end (bit_xor (get_or now end 0) (bit_and (get_or src end 0) last)), within) in
+    rw (get_or-row_sum old (masked src last) i longer, e)
+    (elim (cases_eq i end) [
+      | inl here ↦
+          rw here (get_or-set_same now end _ 0 (omega arith)
+          ∙ (rw (kept end (omega arith), get_or-set_same src end (bit_and (get_or src end 0) last) 0 (omega arith)) refl))
+      | inr away ↦
+          get_or-set_other now end i _ 0 away
+          ∙ (added i (omega (arith, away)) ∙ ap (λ w. bit_xor (get_or old i 0) w) (sym (get_or-set_other src end i _ 0 away)))
+    ]))
