@@ -7,7 +7,8 @@ use Rattle.std.proofs.Common.{⊎_elim}
 use Rattle.m4_model.specs.Field.{Field, IsElement, sum_below, mul}
 use Rattle.m4_model.proofs.FieldLaws.{FieldLaws}
 use Rattle.m4_model.proofs.FieldLemmas.{sum_below-same, sum_below-lt}
-use Rattle.m4_model.proofs.SumLemmas.{sum_below-single, same_from_xor, mul-zero_left}
+use Rattle.m4_model.proofs.Polynomials.{xor_zero_equal}
+use Rattle.m4_model.proofs.SumLemmas.{sum_below-single, mul-zero_left}
 use Rattle.m4_model.proofs.ProductLemmas.{times, times-same, times_assoc, times-xor_right}
 
 -- in the first m rows of a, column j is the combination by c of the columns before it
@@ -82,4 +83,4 @@ module _ (F : Field) (laws : FieldLaws F) where
       (λ t before. ap (mul F (c t)) (sym (made s t within (omega (arith, before)))))
       ∙ sym (combined s within))
       ∙ xor_self (p s j) in
-      same_from_xor (e i j) (sum_below j (λ t. mul F (c t) (e i t))) (unit_lower-zero m left d ones above elements none m i below below)
+      xor_zero_equal (e i j) (sum_below j (λ t. mul F (c t) (e i t))) (unit_lower-zero m left d ones above elements none m i below below)

@@ -10,7 +10,8 @@ use Rattle.m4_model.specs.Rank.{IsFree, ArePivots}
 use Rattle.m4_model.specs.Forms.{Echelon, Reduced, IsReduced, IsInverse, Singular, IsSolution, NoSolution, AreFree, IsKernel}
 use Rattle.m4_model.proofs.FieldLaws.{FieldLaws}
 use Rattle.m4_model.proofs.FieldLemmas.{sum_below-same, sum_below-more}
-use Rattle.m4_model.proofs.SumLemmas.{sum_below-zero, sum_below-short, same_from_xor, mul-one_right, sum_below-mul, mul-sum_below, mul-zero_left}
+use Rattle.m4_model.proofs.Polynomials.{xor_zero_equal}
+use Rattle.m4_model.proofs.SumLemmas.{sum_below-zero, sum_below-short, mul-one_right, sum_below-mul, mul-sum_below, mul-zero_left}
 use Rattle.m4_model.proofs.ProductLemmas.{times, times-same, times_assoc, times-xor_right, times-unit_row, times-unit_col, times-zero_row, unit_at, unit_at-same, unit_at-other, IsElement-times}
 use Rattle.m4_model.proofs.ShapeLemmas.{at_shape, IsField-shape, IsElement-shape, HasShape-own, same_entries, HasShape-zero_matrix, at-zero_matrix, at-product, HasShape-product, at-transposed, HasShape-transposed}
 use Rattle.m4_model.proofs.RingLemmas.{product_assoc, product-identity_left, product-identity_right, product-zero_right}
@@ -27,7 +28,7 @@ module _ (A : Matrix) (laws : FieldLaws A.field) (is_matrix : IsMatrix A) where
       let shorter : sum_below A.cols term ≡ sum_below (t + 1) term
       = sum_below-short (t + 1) A.cols term (omega arith)
       (λ s from below. ap (mul A.field (at A i s)) (later s (omega (arith, from)) below) ∙ laws.annihilates (at A i s)) in
-      sym (same_from_xor (sum_below t term) (term t) (sym (sum_below-more t term) ∙ sym shorter ∙ none))
+      sym (xor_zero_equal (sum_below t term) (term t) (sym (sum_below-more t term) ∙ sym shorter ∙ none))
 
   -- the last nonzero entry of a column that A takes to zero stands at a free column
   last_is_free : (v : ℕ → ℕ) (t : ℕ) → t < A.cols → ((s : ℕ) → s < A.cols → IsElement A.field (v s)) → v t ≢ 0
@@ -72,7 +73,7 @@ module _ (A : Matrix) (laws : FieldLaws A.field) (is_matrix : IsMatrix A) where
       → ((i : ℕ) → i < A.rows → sum_below A.cols (λ s. mul A.field (at A i s) (v s)) ≡ sum_below A.cols (λ s. mul A.field (at A i s) (w s)))
       → ((j : ℕ) → j < A.cols → IsFree A j → v j ≡ w j) → (t : ℕ) → t < A.cols → v t ≡ w t
   same_image v w v_in w_in same free t within =
-      same_from_xor (v t) (w t) (killed_zero (λ s. bit_xor (v s) (w s))
+      xor_zero_equal (v t) (w t) (killed_zero (λ s. bit_xor (v s) (w s))
       (λ s below. xor_lt A.field.degree (v s) (w s) (v_in s below) (w_in s below))
       (λ i below.
       times-xor_right A.field laws A.cols (at A) (λ t k. v t) (λ t k. w t) i 0

@@ -7,6 +7,7 @@ use Rattle.m4_model.specs.Field.{Field, IsField, IsElement, IsExtension, gf2, su
 use Rattle.m4_model.specs.Matrix.{Matrix, IsMatrix, HasShape, at, matrix_of, zero_matrix, identity, added, product}
 use Rattle.m4_model.specs.Shapes.{transposed}
 use Rattle.m4_model.proofs.FieldLaws.{FieldLaws}
+use Rattle.m4_model.proofs.Polynomials.{xor_twice, xor_zero_equal}
 use Rattle.m4_model.proofs.ProductLemmas.{times, times-same, times_assoc, times-xor_right, times-xor_left, times-zero_row, times-zero_col, times-unit_row, times-unit_col, times-transposed, unit_at}
 use Rattle.m4_model.proofs.ShapeLemmas.{IsField-shape, IsElement-shape, same_entries, HasShape-zero_matrix, at-zero_matrix, HasShape-identity, at-identity, at-added, HasShape-added, at-product, HasShape-product, at-transposed, HasShape-transposed}
 
@@ -33,9 +34,7 @@ module _ {F : Field} {m n : ℕ} {A B : Matrix} (a : HasShape F m n A) (b : HasS
   added_back = same_entries (HasShape-added a (HasShape-added a b)) b (λ i j in_rows in_cols.
       at-added a (HasShape-added a b) i j in_rows in_cols
       ∙ ap (bit_xor (at A i j)) (at-added a b i j in_rows in_cols)
-      ∙ sym (xor_assoc (at A i j) (at A i j) (at B i j))
-      ∙ ap (λ (x : ℕ). bit_xor x (at B i j)) (xor_self (at A i j))
-      ∙ xor_zero_l (at B i j))
+      ∙ xor_twice (at A i j) (at B i j))
 
   -- matrices with the sum zero are equal
   pub same_from_added : added A B ≡ zero_matrix F m n → A ≡ B

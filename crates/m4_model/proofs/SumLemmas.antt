@@ -5,21 +5,7 @@ use Rattle.std.proofs.lemmas.Nat.{xor_comm}
 use Rattle.m4_model.specs.Field.{Field, IsElement, sum_below, mul}
 use Rattle.m4_model.proofs.FieldLaws.{FieldLaws}
 use Rattle.m4_model.proofs.FieldLemmas.{sum_below-same}
-
--- the sum of two sums, term by term
-pub xor_four : (a b c d : ℕ) → bit_xor (bit_xor a b) (bit_xor c d) ≡ bit_xor (bit_xor a c) (bit_xor b d)
-xor_four a b c d =
-    xor_assoc a b (bit_xor c d)
-    ∙ ap (bit_xor a) (sym (xor_assoc b c d) ∙ ap (λ (x : ℕ). bit_xor x d) (xor_comm b c) ∙ xor_assoc c b d)
-    ∙ sym (xor_assoc a c (bit_xor b d))
-
--- what is added twice is gone
-pub xor_back : (a b : ℕ) → bit_xor a (bit_xor a b) ≡ b
-xor_back a b = sym (xor_assoc a a b) ∙ ap (λ (x : ℕ). bit_xor x b) (xor_self a) ∙ xor_zero_l b
-
--- numbers with the sum 0 are equal
-pub same_from_xor : (a b : ℕ) → bit_xor a b ≡ 0 → a ≡ b
-same_from_xor a b none = sym (xor_zero_r a) ∙ ap (bit_xor a) (sym none) ∙ xor_back a b
+use Rattle.m4_model.proofs.Polynomials.{xor_exchange}
 
 -- a sum of no terms
 pub sum_below-none : (g : ℕ → ℕ) → sum_below 0 g ≡ 0
@@ -39,7 +25,7 @@ unfolding sum_below
 sum_below-xor zero g h = sym (xor_zero_l 0)
 sum_below-xor (suc n) g h =
     ap (λ (x : ℕ). bit_xor x (bit_xor (g n) (h n))) (sum_below-xor n g h)
-    ∙ xor_four (sum_below n g) (sum_below n h) (g n) (h n)
+    ∙ xor_exchange (sum_below n g) (sum_below n h) (g n) (h n)
 
 -- a double sum in the other order
 pub sum_below-exchange : (m n : ℕ) (g : ℕ → ℕ → ℕ)

@@ -4,10 +4,16 @@
 //! speaks of machine words, masks or loops. `docs/DEFINITIONS.md` says each one in words.
 #![tactic(auto)]
 
+mod factor_laws;
 mod field_laws;
+mod form_laws;
 mod no_memory;
+mod ring_laws;
 mod status;
 
+pub use factor_laws::law_ple;
 pub use field_laws::law_field;
+pub use form_laws::{law_inverse, law_kernel, law_reduced, law_solution};
 pub use no_memory::NoMemory;
+pub use ring_laws::law_ring;
 pub use status::Status;
