@@ -95,6 +95,41 @@ extended-before p x c t before = rw (ne_eqb t p (λ same. absurd (omega (arith, 
 extended-after : (p x : ℕ) (c : ℕ → ℕ) (t : ℕ) → p < t → extended p x c t ≡ 0
 extended-after p x c t after = rw (ne_eqb t p (λ same. absurd (omega (arith, same, after))), le-ltb t p (omega (arith, after))) refl
 
+-- a term added and taken away again
+xor_off : (a b : ℕ) → bit_xor (bit_xor a b) b ≡ a
+xor_off a b = xor_assoc a b b ∙ ap (bit_xor a) (xor_self b) ∙ xor_zero_r a
+
+module _ (F : Field) (laws : FieldLaws F) where
+  -- b divided by e, times e
+  divided : (e y b : ℕ) → IsElement F b → mul F e y ≡ 1 → mul F (mul F y b) e ≡ b
+  divided e y b element inverse =
+      laws.comm (mul F y b) e ∙ sym (laws.assoc e y b) ∙ ap (λ (x : ℕ). mul F x b) inverse ∙ laws.unit b element
+
+  -- a combination with one more coefficient
+  combination-extended : (p x j : ℕ) (c a : ℕ → ℕ) → p < j
+      → sum_below j (λ t. mul F (extended p x c t) (a t)) ≡ bit_xor (sum_below p (λ t. mul F (c t) (a t))) (mul F x (a p))
+  combination-extended p x j c a lower =
+      sum_below-short (p + 1) j (λ t. mul F (extended p x c t) (a t)) (omega (arith, lower))
+        (λ t from before. ap (λ (y : ℕ). mul F y (a t)) (extended-after p x c t (omega (arith, from))) ∙ mul-zero_left F laws (a t))
+      ∙ sum_below-more p (λ t. mul F (extended p x c t) (a t))
+      ∙ ap₂ bit_xor
+          (sum_below-same p (λ t. mul F (extended p x c t) (a t)) (λ t. mul F (c t) (a t))
+            (λ t sooner. ap (λ (y : ℕ). mul F y (a t)) (extended-before p x c t sooner)))
+          (ap (λ (y : ℕ). mul F y (a p)) (extended-here p x c))
+
+  -- its coefficients are elements
+  IsElement-extended : (p x : ℕ) (c : ℕ → ℕ) → IsElement F x → ((t : ℕ) → t < p → IsElement F (c t)) → (t : ℕ) → IsElement F (extended p x c t)
+  IsElement-extended p x c element elements t = ⊎_elim
+      (λ (same : t ≡ p). rw (same, extended-here p x c) element)
+      (⊎_elim (λ (sooner : t < p). rw (extended-before p x c t sooner) (elements t sooner))
+        (λ (later : p < t). rw (extended-after p x c t later) (pow_pos F.degree)))
+      (cases_order t p)
+
+-- b is a combination of the columns of E before j, by elements
+abbrev pub Spans : Matrix → ℕ → (ℕ → ℕ) → Type 0
+Spans E j b = (c : ℕ → ℕ) × ((t : ℕ) → t < j → IsElement E.field (c t))
+    × ((i : ℕ) → i < E.rows → b i ≡ sum_below j (λ t. mul E.field (c t) (at E i t)))
+
 module _ (E : Matrix) (laws : FieldLaws E.field) (is_matrix : IsMatrix E) (q : List ℕ) (echelon : Echelon E q) where
   -- a pivot's row refutes a combination
   pivot_combined : (k : ℕ) (c : ℕ → ℕ) → k < length q → Combined E.field E.rows (at E) (slice_index q k) c → ⊥
@@ -116,6 +151,15 @@ module _ (E : Matrix) (laws : FieldLaws E.field) (is_matrix : IsMatrix E) (q : L
       (λ (rest : length q ≤ i). echelon.below i (slice_index q k) rest below (echelon.columns k within))
       (cases_lt i (length q))
 
+  -- the combination of a column less a multiple of column p, with that multiple
+  extend : (b : ℕ → ℕ) (j p x : ℕ) → IsElement E.field x → p < j → Spans E p (λ i. bit_xor (b i) (mul E.field x (at E i p))) → Spans E j b
+  extend b j p x element lower less =
+      (extended p x less.0,
+      λ t before. IsElement-extended E.field laws p x less.0 element less.1 t,
+      λ i below. sym (combination-extended E.field laws p x j less.0 (at E i) lower
+        ∙ ap (λ (y : ℕ). bit_xor y (mul E.field x (at E i p))) (sym (less.2 i below))
+        ∙ xor_off (b i) (mul E.field x (at E i p))))
+
   -- a column that is zero from row k on is a combination of columns up to the k-th pivot
   pub spanned : (k : ℕ) → k ≤ length q → (b : ℕ → ℕ) → ((i : ℕ) → i < E.rows → IsElement E.field (b i))
       → ((i : ℕ) → k ≤ i → i < E.rows → b i ≡ 0) → (j : ℕ) → ((i : ℕ) → i < k → slice_index q i < j)
@@ -128,7 +172,6 @@ module _ (E : Matrix) (laws : FieldLaws E.field) (is_matrix : IsMatrix E) (q : L
         ∙ sym (sum_below-zero j (λ t. mul E.field 0 (at E i t)) (λ t before. mul-zero_left E.field laws (at E i t))),
   )
   spanned (suc k) most b elements none j low =
-      let F : Field = E.field in
       let p : ℕ = slice_index q k in
       let pivoted : k < length q = omega arith in
       let within_rows = echelon.within in
@@ -140,41 +183,19 @@ module _ (E : Matrix) (laws : FieldLaws E.field) (is_matrix : IsMatrix E) (q : L
       let inverse = laws.inverse entry entry_in (echelon.nonzero k pivoted) in
       let x : ℕ = mul E.field inverse.0 (b k) in
       let x_in : IsElement E.field x = laws.closed inverse.0 (b k) inverse.1 (elements k in_rows) in
-      let whole : mul E.field x entry ≡ b k
-      = laws.comm x entry ∙ sym (laws.assoc entry inverse.0 (b k)) ∙ ap (λ (y : ℕ). mul E.field y (b k)) inverse.2
-      ∙ laws.unit (b k) (elements k in_rows) in
+      let whole : mul E.field x entry ≡ b k = divided E.field laws entry inverse.0 (b k) (elements k in_rows) inverse.2 in
       let less : ℕ → ℕ = λ i. bit_xor (b i) (mul E.field x (at E i p)) in
       let less_in : (i : ℕ) → i < E.rows → IsElement E.field (less i)
-      = λ i below. xor_lt E.field.degree (b i) (mul E.field x (at E i p)) (elements i below)
-      (laws.closed x (at E i p) x_in (is_matrix.elements i p below in_cols)) in
+          = λ i below. xor_lt E.field.degree (b i) (mul E.field x (at E i p)) (elements i below)
+            (laws.closed x (at E i p) x_in (is_matrix.elements i p below in_cols)) in
       let less_none : (i : ℕ) → k ≤ i → i < E.rows → less i ≡ 0
-      = λ i from below. ⊎_elim
-      (λ (later : k < i).
-      ap₂ bit_xor (none i later below) (ap (mul E.field x) (pivot_below i k later below pivoted) ∙ laws.annihilates x) ∙ xor_zero_l 0)
-      (λ (here : i ≤ k). let same : i ≡ k = omega (arith, from, here) in
-      rw same (ap (bit_xor (b k)) whole ∙ xor_self (b k)))
-      (cases_lt k i) in
-      let rec = spanned k (omega arith) less less_in less_none p (λ i before. echelon.rising i k before pivoted) in
-      let c : ℕ → ℕ = extended p x rec.0 in (
-        c,
-        λ t before. ⊎_elim
-            (λ (same : t ≡ p). rw (same, extended-here p x rec.0) x_in)
-            (⊎_elim (λ (sooner : t < p). rw (extended-before p x rec.0 t sooner) (rec.1 t sooner))
-            (λ (later : p < t). rw (extended-after p x rec.0 t later) (pow_pos E.field.degree)))
-            (cases_order t p),
-        λ i below.
-            sym (sum_below-short (p + 1) j (λ t. mul E.field (c t) (at E i t)) (omega arith)
-            (λ t from before. ap (λ (y : ℕ). mul E.field y (at E i t)) (extended-after p x rec.0 t (omega (arith, from))) ∙ mul-zero_left E.field laws (at E i t))
-            ∙ sum_below-more p (λ t. mul E.field (c t) (at E i t))
-            ∙ ap₂ bit_xor
-            (sum_below-same p (λ t. mul E.field (c t) (at E i t)) (λ t. mul E.field (rec.0 t) (at E i t))
-            (λ t sooner. ap (λ (y : ℕ). mul E.field y (at E i t)) (extended-before p x rec.0 t sooner))
-            ∙ sym (rec.2 i below))
-            (ap (λ (y : ℕ). mul E.field y (at E i p)) (extended-here p x rec.0))
-            ∙ xor_assoc (b i) (mul E.field x (at E i p)) (mul E.field x (at E i p))
-            ∙ ap (bit_xor (b i)) (xor_self (mul E.field x (at E i p)))
-            ∙ xor_zero_r (b i)),
-      )
+          = λ i from below. ⊎_elim
+            (λ (later : k < i).
+              ap₂ bit_xor (none i later below) (ap (mul E.field x) (pivot_below i k later below pivoted) ∙ laws.annihilates x) ∙ xor_zero_l 0)
+            (λ (here : i ≤ k). let same : i ≡ k = omega (arith, from, here) in
+              rw same (ap (bit_xor (b k)) whole ∙ xor_self (b k)))
+            (cases_lt k i) in
+      extend b j p x x_in lower (spanned k (omega arith) less less_in less_none p (λ i before. echelon.rising i k before pivoted))
 
   -- any other column is free
   pub other_free : (j : ℕ) → j < E.cols → (Contains q j → ⊥) → IsFree E j

@@ -8,7 +8,7 @@ use Rattle.m4_model.specs.Text.{text}
 use Rattle.m4_model.specs.Words.{job, names_from, Mul}
 
 -- a matrix over GF(2)
-abbrev bits : ℕ → ℕ → List (List ℕ) → Matrix
+abbrev pub bits : ℕ → ℕ → List (List ℕ) → Matrix
 bits m n entries = record { field = gf2; rows = m; cols = n; entries = entries }
 
 -- 53 and ca are inverse to each other modulo 11b, and x times x^3 is 1 modulo 1f

@@ -15,3 +15,4 @@ pub mod Division
 pub mod Remainder
 pub mod FieldProofs
 mod Examples
+mod ExampleTests
