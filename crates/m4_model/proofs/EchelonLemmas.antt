@@ -110,19 +110,19 @@ module _ (F : Field) (laws : FieldLaws F) where
       → sum_below j (λ t. mul F (extended p x c t) (a t)) ≡ bit_xor (sum_below p (λ t. mul F (c t) (a t))) (mul F x (a p))
   combination-extended p x j c a lower =
       sum_below-short (p + 1) j (λ t. mul F (extended p x c t) (a t)) (omega (arith, lower))
-        (λ t from before. ap (λ (y : ℕ). mul F y (a t)) (extended-after p x c t (omega (arith, from))) ∙ mul-zero_left F laws (a t))
+      (λ t from before. ap (λ (y : ℕ). mul F y (a t)) (extended-after p x c t (omega (arith, from))) ∙ mul-zero_left F laws (a t))
       ∙ sum_below-more p (λ t. mul F (extended p x c t) (a t))
       ∙ ap₂ bit_xor
-          (sum_below-same p (λ t. mul F (extended p x c t) (a t)) (λ t. mul F (c t) (a t))
-            (λ t sooner. ap (λ (y : ℕ). mul F y (a t)) (extended-before p x c t sooner)))
-          (ap (λ (y : ℕ). mul F y (a p)) (extended-here p x c))
+      (sum_below-same p (λ t. mul F (extended p x c t) (a t)) (λ t. mul F (c t) (a t))
+      (λ t sooner. ap (λ (y : ℕ). mul F y (a t)) (extended-before p x c t sooner)))
+      (ap (λ (y : ℕ). mul F y (a p)) (extended-here p x c))
 
   -- its coefficients are elements
   IsElement-extended : (p x : ℕ) (c : ℕ → ℕ) → IsElement F x → ((t : ℕ) → t < p → IsElement F (c t)) → (t : ℕ) → IsElement F (extended p x c t)
   IsElement-extended p x c element elements t = ⊎_elim
       (λ (same : t ≡ p). rw (same, extended-here p x c) element)
       (⊎_elim (λ (sooner : t < p). rw (extended-before p x c t sooner) (elements t sooner))
-        (λ (later : p < t). rw (extended-after p x c t later) (pow_pos F.degree)))
+      (λ (later : p < t). rw (extended-after p x c t later) (pow_pos F.degree)))
       (cases_order t p)
 
 -- b is a combination of the columns of E before j, by elements
@@ -153,12 +153,13 @@ module _ (E : Matrix) (laws : FieldLaws E.field) (is_matrix : IsMatrix E) (q : L
 
   -- the combination of a column less a multiple of column p, with that multiple
   extend : (b : ℕ → ℕ) (j p x : ℕ) → IsElement E.field x → p < j → Spans E p (λ i. bit_xor (b i) (mul E.field x (at E i p))) → Spans E j b
-  extend b j p x element lower less =
-      (extended p x less.0,
-      λ t before. IsElement-extended E.field laws p x less.0 element less.1 t,
-      λ i below. sym (combination-extended E.field laws p x j less.0 (at E i) lower
+  extend b j p x element lower less = (
+    extended p x less.0,
+    λ t before. IsElement-extended E.field laws p x less.0 element less.1 t,
+    λ i below. sym (combination-extended E.field laws p x j less.0 (at E i) lower
         ∙ ap (λ (y : ℕ). bit_xor y (mul E.field x (at E i p))) (sym (less.2 i below))
-        ∙ xor_off (b i) (mul E.field x (at E i p))))
+        ∙ xor_off (b i) (mul E.field x (at E i p))),
+  )
 
   -- a column that is zero from row k on is a combination of columns up to the k-th pivot
   pub spanned : (k : ℕ) → k ≤ length q → (b : ℕ → ℕ) → ((i : ℕ) → i < E.rows → IsElement E.field (b i))
@@ -186,15 +187,15 @@ module _ (E : Matrix) (laws : FieldLaws E.field) (is_matrix : IsMatrix E) (q : L
       let whole : mul E.field x entry ≡ b k = divided E.field laws entry inverse.0 (b k) (elements k in_rows) inverse.2 in
       let less : ℕ → ℕ = λ i. bit_xor (b i) (mul E.field x (at E i p)) in
       let less_in : (i : ℕ) → i < E.rows → IsElement E.field (less i)
-          = λ i below. xor_lt E.field.degree (b i) (mul E.field x (at E i p)) (elements i below)
-            (laws.closed x (at E i p) x_in (is_matrix.elements i p below in_cols)) in
+      = λ i below. xor_lt E.field.degree (b i) (mul E.field x (at E i p)) (elements i below)
+      (laws.closed x (at E i p) x_in (is_matrix.elements i p below in_cols)) in
       let less_none : (i : ℕ) → k ≤ i → i < E.rows → less i ≡ 0
-          = λ i from below. ⊎_elim
-            (λ (later : k < i).
-              ap₂ bit_xor (none i later below) (ap (mul E.field x) (pivot_below i k later below pivoted) ∙ laws.annihilates x) ∙ xor_zero_l 0)
-            (λ (here : i ≤ k). let same : i ≡ k = omega (arith, from, here) in
-              rw same (ap (bit_xor (b k)) whole ∙ xor_self (b k)))
-            (cases_lt k i) in
+      = λ i from below. ⊎_elim
+      (λ (later : k < i).
+      ap₂ bit_xor (none i later below) (ap (mul E.field x) (pivot_below i k later below pivoted) ∙ laws.annihilates x) ∙ xor_zero_l 0)
+      (λ (here : i ≤ k). let same : i ≡ k = omega (arith, from, here) in
+      rw same (ap (bit_xor (b k)) whole ∙ xor_self (b k)))
+      (cases_lt k i) in
       extend b j p x x_in lower (spanned k (omega arith) less less_in less_none p (λ i before. echelon.rising i k before pivoted))
 
   -- any other column is free

@@ -5,7 +5,7 @@ use Rattle.m4_model.specs.Field.{gf2}
 use Rattle.m4_model.specs.Matrix.{Matrix, IsMatrix, HasShape, row, at}
 use Rattle.m4_model.specs.Rank.{IsRising}
 use Rattle.m4_model.specs.Forms.{Echelon, Reduced}
-use Rattle.m4_model.specs.Factors.{IsOrder, IsUnitLower}
+use Rattle.m4_model.specs.Factors.{IsOrder, IsUnitLower, IsUpper}
 use Rattle.m4_model.proofs.FieldLemmas.{gf2_field}
 use Rattle.m4_model.proofs.ProductLemmas.{unit_at}
 
@@ -19,7 +19,7 @@ every_at zero test passed i below = absurd (omega (arith, below))
 every_at (suc n) test passed i below =
     let parts = and_parts (every n test) (test n) passed in
     ⊎_elim (λ (sooner : i < n). every_at n test parts.0 i sooner)
-      (λ (last : n ≤ i). let same : i ≡ n = omega (arith, last, below) in rw same parts.1) (cases_lt i n)
+    (λ (last : n ≤ i). let same : i ≡ n = omega (arith, last, below) in rw same parts.1) (cases_lt i n)
 
 -- some number below n passes
 abbrev pub some : ℕ → (ℕ → Bool) → Bool
@@ -66,7 +66,7 @@ shape_passed m n entries passed =
         height = eqb-true (length entries) m parts.0;
         width = λ i below. eqb-true (length (row A i)) n (every_at m (λ i. eqb (length (row A i)) n) others.0 i below);
         elements = λ i j in_rows in_cols. ltb-true (at A i j) 2
-          (every_at n (λ j. ltb (at A i j) 2) (every_at m (λ i. every n (λ j. ltb (at A i j) 2)) others.1 i in_rows) j in_cols);
+            (every_at n (λ j. ltb (at A i j) 2) (every_at m (λ i. every n (λ j. ltb (at A i j) 2)) others.1 i in_rows) j in_cols);
       };
       over = refl;
       rows = refl;
@@ -80,7 +80,7 @@ rising_test q = every (length q) (λ j. every j (λ i. ltb (slice_index q i) (sl
 pub rising_passed : (q : List ℕ) → rising_test q ≡ true → IsRising q
 rising_passed q passed i j before within =
     ltb-true (slice_index q i) (slice_index q j) (every_at j (λ i. ltb (slice_index q i) (slice_index q j))
-      (every_at (length q) (λ j. every j (λ i. ltb (slice_index q i) (slice_index q j))) passed j within) i before)
+    (every_at (length q) (λ j. every j (λ i. ltb (slice_index q i) (slice_index q j))) passed j within) i before)
 
 -- an echelon form
 abbrev pub echelon_test : Matrix → List ℕ → Bool
@@ -103,13 +103,13 @@ echelon_passed R q passed =
       columns = λ i within. ltb-true (slice_index q i) R.cols (every_at (length q) (λ i. ltb (slice_index q i) R.cols) two.0 i within);
       within = leb-true (length q) R.rows three.0;
       nonzero = λ i within. eqb-false (at R i (slice_index q i)) 0
-        (not-true (eqb (at R i (slice_index q i)) 0) (every_at (length q) (λ i. not (eqb (at R i (slice_index q i)) 0)) four.0 i within));
+          (not-true (eqb (at R i (slice_index q i)) 0) (every_at (length q) (λ i. not (eqb (at R i (slice_index q i)) 0)) four.0 i within));
       before = λ i j within before. eqb-true (at R i j) 0 (every_at (slice_index q i) (λ j. eqb (at R i j) 0)
-        (every_at (length q) (λ i. every (slice_index q i) (λ j. eqb (at R i j) 0)) five.0 i within) j before);
+          (every_at (length q) (λ i. every (slice_index q i) (λ j. eqb (at R i j) 0)) five.0 i within) j before);
       below = λ i j rest in_rows in_cols. eqb-true (at R i j) 0 (passes_then (leb (length q) i) (eqb (at R i j) 0)
-        (every_at R.cols (λ j. not (leb (length q) i) || eqb (at R i j) 0)
+          (every_at R.cols (λ j. not (leb (length q) i) || eqb (at R i j) 0)
           (every_at R.rows (λ i. every R.cols (λ j. not (leb (length q) i) || eqb (at R i j) 0)) five.1 i in_rows) j in_cols)
-        (le-leb (length q) i rest));
+          (le-leb (length q) i rest));
     }
 
 -- a reduced one
@@ -132,8 +132,8 @@ order_passed n p passed =
       count = eqb-true (length p) n one.0;
       below = λ i below. ltb-true (slice_index p i) n (every_at n (λ i. ltb (slice_index p i) n) two.0 i below);
       onto = λ j below.
-        let found = some_at n (λ i. eqb (slice_index p i) j) (every_at n (λ j. some n (λ i. eqb (slice_index p i) j)) two.1 j below) in
-        (found.0, found.1, eqb-true (slice_index p found.0) j found.2);
+          let found = some_at n (λ i. eqb (slice_index p i) j) (every_at n (λ j. some n (λ i. eqb (slice_index p i) j)) two.1 j below) in
+          (found.0, found.1, eqb-true (slice_index p found.0) j found.2);
     }
 
 -- ones on the diagonal and zeros above it, and below it from column r on
@@ -148,9 +148,46 @@ unit_lower_passed r L passed =
     record {
       diagonal = λ i below. eqb-true (at L i i) 1 (every_at L.rows (λ i. eqb (at L i i) 1) one.0 i below);
       above = λ i j later below. eqb-true (at L i j) 0 (every_at j (λ i. eqb (at L i j) 0)
-        (every_at L.cols (λ j. every j (λ i. eqb (at L i j) 0)) two.0 j below) i later);
+          (every_at L.cols (λ j. every j (λ i. eqb (at L i j) 0)) two.0 j below) i later);
       rest = λ i j from before below. eqb-true (at L i j) 0 (passes_then (leb r j) (eqb (at L i j) 0)
-        (every_at i (λ j. not (leb r j) || eqb (at L i j) 0)
+          (every_at i (λ j. not (leb r j) || eqb (at L i j) 0)
           (every_at L.rows (λ i. every i (λ j. not (leb r j) || eqb (at L i j) 0)) two.1 i below) j before)
-        (le-leb r j from));
+          (le-leb r j from));
     }
+
+-- zeros where either of two tests holds
+abbrev pub zeros_test : Matrix → (ℕ → ℕ → Bool) → Bool
+zeros_test A place = every A.rows (λ i. every A.cols (λ j. not (place i j) || eqb (at A i j) 0))
+
+pub zeros_passed : (A : Matrix) (place : ℕ → ℕ → Bool) → zeros_test A place ≡ true
+    → (i j : ℕ) → i < A.rows → j < A.cols → place i j ≡ true → at A i j ≡ 0
+zeros_passed A place passed i j in_rows in_cols here =
+    eqb-true (at A i j) 0 (passes_then (place i j) (eqb (at A i j) 0)
+    (every_at A.cols (λ j. not (place i j) || eqb (at A i j) 0)
+    (every_at A.rows (λ i. every A.cols (λ j. not (place i j) || eqb (at A i j) 0)) passed i in_rows) j in_cols) here)
+
+either_way : (a b : Bool) → (a ≡ true) ⊎ (b ≡ true) → (a || b) ≡ true
+either_way true b sides = refl
+either_way false b (inl first) = absurd (true≢false (sym first))
+either_way false b (inr second) = second
+
+-- an upper factor
+abbrev pub upper_test : ℕ → Matrix → Bool
+upper_test r U = every r (λ i. not (eqb (at U i i) 0)) && zeros_test U (λ i j. ltb j i || leb r i)
+
+pub upper_passed : (r : ℕ) (U : Matrix) → upper_test r U ≡ true → IsUpper r U
+upper_passed r U passed =
+    let parts = and_parts _ _ passed in
+    record {
+      diagonal = λ i within. eqb-false (at U i i) 0 (not-true (eqb (at U i i) 0) (every_at r (λ i. not (eqb (at U i i) 0)) parts.0 i within));
+      zeros = λ i j in_rows in_cols place. zeros_passed U (λ i j. ltb j i || leb r i) parts.1 i j in_rows in_cols
+          (either_way (ltb j i) (leb r i) (⊎_elim (λ (under : j < i). inl (lt-ltb j i under)) (λ (rest : r ≤ i). inr (le-leb r i rest)) place));
+    }
+
+-- what an echelon form leaves zero
+pub echelon_zeros_passed : (E : Matrix) (q : List ℕ) → zeros_test E (λ i j. leb (length q) i || ltb j (slice_index q i)) ≡ true
+    → (i j : ℕ) → i < E.rows → j < E.cols → (length q ≤ i) ⊎ (j < slice_index q i) → at E i j ≡ 0
+echelon_zeros_passed E q passed i j in_rows in_cols place =
+    zeros_passed E (λ i j. leb (length q) i || ltb j (slice_index q i)) passed i j in_rows in_cols
+    (either_way (leb (length q) i) (ltb j (slice_index q i))
+    (⊎_elim (λ (rest : length q ≤ i). inl (le-leb (length q) i rest)) (λ (before : j < slice_index q i). inr (lt-ltb j (slice_index q i) before)) place))

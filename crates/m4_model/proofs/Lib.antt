@@ -16,3 +16,4 @@ pub mod Remainder
 pub mod FieldProofs
 mod Examples
 mod ExampleTests
+mod ExamplesForms
