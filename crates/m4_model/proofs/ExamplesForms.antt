@@ -77,11 +77,11 @@ pivots_of_late = pivots_of_ple late (1 ∷ 0 ∷ []) (1 ∷ []) 1 plain early gf
 rank_of_late : IsRank late 1
 rank_of_late = rank_of_ple late (1 ∷ 0 ∷ []) (1 ∷ []) 1 plain early gf2_laws late_shape.is_matrix ple_of_late
 
-two_isn't_its_pivot : ArePivots late (2 ∷ []) → ⊥
-two_isn't_its_pivot other = let same = same_pivots late (1 ∷ []) (2 ∷ []) pivots_of_late other in absurd (omega (arith, ap (λ (q : List ℕ). slice_index q 0) same))
+pivot_two_refuted : ArePivots late (2 ∷ []) → ⊥
+pivot_two_refuted other = let same = same_pivots late (1 ∷ []) (2 ∷ []) pivots_of_late other in absurd (omega (arith, ap (λ (q : List ℕ). slice_index q 0) same))
 
-its_rank_isn't_2 : IsRank late 2 → ⊥
-its_rank_isn't_2 other = let same = same_rank late 1 2 rank_of_late other in absurd (omega arith)
+rank_two_refuted : IsRank late 2 → ⊥
+rank_two_refuted other = let same = same_rank late 1 2 rank_of_late other in absurd (omega arith)
 
 -- no factors have the rows in the order 0 1, with these
 rows_in_order : (r : ℕ) → IsPle late (0 ∷ 1 ∷ []) (1 ∷ []) r plain early → ⊥

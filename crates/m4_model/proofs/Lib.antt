@@ -9,6 +9,7 @@ pub mod RankLemmas
 pub mod RingLemmas
 pub mod BlockLemmas
 pub mod FormLemmas
+pub mod SingularLemmas
 pub mod MatrixLemmas
 pub mod Polynomials
 pub mod Division
