@@ -10,6 +10,8 @@ pub mod RingLemmas
 pub mod BlockLemmas
 pub mod FormLemmas
 pub mod SingularLemmas
+pub mod ExchangeLemmas
+pub mod FactorLemmas
 pub mod MatrixLemmas
 pub mod Polynomials
 pub mod Division
