@@ -4,7 +4,7 @@ use Rattle.std.proofs.lemmas.Bool.{cases_lt, cases_order, lt-ltb, le-ltb, le-leb
 use Rattle.m4_model.specs.Field.{Field, IsField, IsElement}
 use Rattle.m4_model.specs.Matrix.{Matrix, IsMatrix, HasShape, at, matrix_of, product}
 use Rattle.m4_model.specs.Shapes.{swaps}
-use Rattle.m4_model.specs.Rank.{IsFree, ArePivots, IsRank}
+use Rattle.m4_model.specs.Rank.{IsRising, IsFree, ArePivots, IsRank}
 use Rattle.m4_model.specs.Forms.{Echelon}
 use Rattle.m4_model.specs.Factors.{IsOrder, IsUnitLower, IsPle, IsUpper, IsPluq, Stored, StoredPluq, stored, stored_pluq}
 use Rattle.m4_model.proofs.FieldLaws.{FieldLaws}
@@ -118,3 +118,74 @@ module _ {F : Field} {m n : ℕ} {E : Matrix} (e : HasShape F m n E) (q : List �
       from_tests : (a b : Bool) → b ≡ false → (if a && b then at E i j else 0) ≡ 0
       from_tests true b none = rw none refl
       from_tests false b none = refl
+
+-- lower factors that agree below the diagonal in their first r columns are equal
+pub same_unit_lower : {F : Field} {m : ℕ} {L M : Matrix} (r : ℕ) → HasShape F m m L → HasShape F m m M → IsUnitLower r L → IsUnitLower r M
+    → ((i j : ℕ) → i < m → j < i → j < r → at L i j ≡ at M i j) → L ≡ M
+same_unit_lower {F} {m} {L} {M} r l_shape m_shape l_form m_form agree =
+    let l_rows = l_shape.rows in
+    let l_cols = l_shape.cols in
+    let m_rows = m_shape.rows in
+    let m_cols = m_shape.cols in
+    same_entries l_shape m_shape (λ i j below right. ⊎_elim
+    (λ (diagonal : i ≡ j). subst (λ (j : ℕ). at L i j ≡ at M i j) diagonal
+      (l_form.diagonal i (omega (arith, below)) ∙ sym (m_form.diagonal i (omega (arith, below)))))
+    (⊎_elim
+      (λ (over : i < j). l_form.above i j over (omega (arith, right)) ∙ sym (m_form.above i j over (omega (arith, right))))
+      (λ (under : j < i). ⊎_elim
+        (λ (first : j < r). agree i j below under first)
+        (λ (rest : r ≤ j). l_form.rest i j rest under (omega (arith, below)) ∙ sym (m_form.rest i j rest under (omega (arith, below))))
+        (cases_lt j r)))
+    (cases_order i j))
+
+module _ {F : Field} {m n : ℕ} {L M E D : Matrix} (q : List ℕ) (W : Matrix) (rising : IsRising q) (columns : (k : ℕ) → k < length q → slice_index q k < n)
+    (e : HasShape F m n E) (d : HasShape F m n D) (first : Stored W q L E) (second : Stored W q M D) where
+  -- what is stored tells the lower factor
+  pub same_stored_lower : HasShape F m m L → HasShape F m m M → L ≡ M
+  same_stored_lower l_shape m_shape =
+      let room = rising_room q n rising columns in
+      same_unit_lower (length q) l_shape m_shape first.l_form second.l_form (λ i j below under within.
+      sym (at-stored_lower e q L W first i j below (omega (arith, within, room)) under within)
+      ∙ at-stored_lower d q M W second i j below (omega (arith, within, room)) under within)
+
+  -- and the echelon form
+  pub same_stored_upper : E ≡ D
+  same_stored_upper =
+      let e_rows = e.rows in
+      let e_cols = e.cols in
+      let d_rows = d.rows in
+      let d_cols = d.cols in
+      let zero : (i j : ℕ) → i < m → j < n → (length q ≤ i) ⊎ (j < slice_index q i) → at E i j ≡ at D i j
+          = λ i j below right place.
+            first.e_zeros i j (omega (arith, below)) (omega (arith, right)) place
+            ∙ sym (second.e_zeros i j (omega (arith, below)) (omega (arith, right)) place) in
+      same_entries e d (λ i j below right. ⊎_elim
+      (λ (pivoted : i < length q). ⊎_elim
+        (λ (before : j < slice_index q i). zero i j below right (inr before))
+        (λ (from : slice_index q i ≤ j).
+          let least = rising-at_least q i rising pivoted in
+          sym (at-stored_upper e q L W first i j below right pivoted (omega (arith, least, from)) from)
+          ∙ at-stored_upper d q M W second i j below right pivoted (omega (arith, least, from)) from)
+        (cases_lt j (slice_index q i)))
+      (λ (rest : length q ≤ i). zero i j below right (inl rest))
+      (cases_lt i (length q)))
+
+-- the entries of a matrix in which L and U are stored
+module _ {F : Field} {m n : ℕ} {U : Matrix} (u : HasShape F m n U) (r : ℕ) (L W : Matrix) (is_stored : StoredPluq W r L U) where
+  entry_stored_pluq : (i j : ℕ) → i < m → j < n
+      → at W i j ≡ (if nat_lt j i && nat_lt j r then at L i j else if nat_lt i r && nat_le i j then at U i j else 0)
+  entry_stored_pluq i j below right =
+      ap (λ (C : Matrix). at C i j) is_stored.table
+      ∙ at_shape u (λ F m n. (i j : ℕ) → i < m → j < n → at (stored_pluq r L U) i j
+          ≡ (if nat_lt j i && nat_lt j r then at L i j else if nat_lt i r && nat_le i j then at U i j else 0))
+          (at-table U.rows U.cols (λ i j. if nat_lt j i && nat_lt j r then at L i j else if nat_lt i r && nat_le i j then at U i j else 0))
+          i j below right
+
+  -- L's entries below its diagonal, in its first columns
+  pub at-stored_pluq_lower : (i j : ℕ) → i < m → j < n → j < i → j < r → at W i j ≡ at L i j
+  at-stored_pluq_lower i j below right under within = entry_stored_pluq i j below right ∙ rw (lt-ltb j i under, lt-ltb j r within) refl
+
+  -- U's entries from its diagonal on
+  pub at-stored_pluq_upper : (i j : ℕ) → i < m → j < n → i < r → i ≤ j → at W i j ≡ at U i j
+  at-stored_pluq_upper i j below right within over =
+      entry_stored_pluq i j below right ∙ rw (le-ltb j i over, lt-ltb i r within, le-leb i j over) refl

@@ -4,15 +4,16 @@ use Rattle.std.specs.Int.Bits.{xor_self}
 use Rattle.std.proofs.Math.Pow.{pow_pos}
 use Rattle.std.proofs.lemmas.Bool.{cases_lt, cases_order, lt-ltb, le-ltb, eq-eqb, ne_eqb}
 use Rattle.m4_model.specs.Field.{Field, IsElement, sum_below, mul}
-use Rattle.m4_model.specs.Matrix.{Matrix, IsMatrix, HasShape, at, matrix_of, zero_matrix, product}
+use Rattle.m4_model.specs.Matrix.{Matrix, IsMatrix, HasShape, at, matrix_of, zero_matrix, identity, product}
 use Rattle.m4_model.specs.Shapes.{beside}
 use Rattle.m4_model.specs.Rank.{IsFree}
-use Rattle.m4_model.specs.Forms.{Singular, NoSolution}
+use Rattle.m4_model.specs.Forms.{IsInverse, Singular, NoSolution}
 use Rattle.m4_model.proofs.FieldLaws.{FieldLaws}
 use Rattle.m4_model.proofs.FieldLemmas.{sum_below-same, sum_below-more}
 use Rattle.m4_model.proofs.SumLemmas.{sum_below-short, mul-zero_left, mul-one_right}
 use Rattle.m4_model.proofs.ProductLemmas.{times, times-same}
-use Rattle.m4_model.proofs.RingLemmas.{IsElement-one}
+use Rattle.m4_model.proofs.RingLemmas.{IsElement-one, HasShape-one, product_assoc, product-identity_left, product-identity_right}
+use Rattle.m4_model.proofs.FormLemmas.{same_image}
 use Rattle.m4_model.proofs.ShapeLemmas.{HasShape-own, HasShape-matrix_of, at-matrix_of, HasShape-zero_matrix, at-zero_matrix, IsElement-shape, same_entries, at-product, HasShape-product}
 use Rattle.m4_model.proofs.BlockLemmas.{at-beside_left, at-beside_right, HasShape-beside}
 use Rattle.m4_model.proofs.RankLemmas.{free_from_dependent}
@@ -112,3 +113,31 @@ module _ (A : Matrix) (laws : FieldLaws A.field) (is_matrix : IsMatrix A) where
   pub no_solution_from_unfree : (B : Matrix) → HasShape A.field A.rows B.cols B → (k : ℕ) → k < B.cols
       → (IsFree (beside A B) (A.cols + k) → ⊥) → NoSolution A B
   no_solution_from_unfree B b k in_cols unfree X x solves = unfree (free_from_solution X B b x solves k in_cols)
+
+  -- where no column is free, an inverse on the right is one on the left
+  pub inverse_from_right : (X : Matrix) → A.cols ≡ A.rows → ((j : ℕ) → j < A.cols → IsFree A j → ⊥) → HasShape A.field A.rows A.rows X
+      → product A X ≡ identity A.field A.rows → IsInverse X A
+  inverse_from_right X square unfree x right =
+      let own : HasShape A.field A.rows A.rows A = record { is_matrix = is_matrix; over = refl; rows = refl; cols = square } in
+      let xa = HasShape-product x own laws in
+      let one = HasShape-one A.field A.rows is_matrix.over_field in
+      let again : product A (product X A) ≡ product A (identity A.field A.rows)
+          = sym (product_assoc laws own x own) ∙ ap (λ (C : Matrix). product C A) right ∙ product-identity_left laws own
+            ∙ sym (product-identity_right laws own) in
+      record {
+        square = square;
+        shape = x;
+        right = right;
+        left = same_entries xa one (λ t k below within.
+          same_image A laws is_matrix (λ s. at (product X A) s k) (λ s. at (identity A.field A.rows) s k)
+            (λ s inside. IsElement-shape xa s k (omega (arith, inside, square)) within)
+            (λ s inside. IsElement-shape one s k (omega (arith, inside, square)) within)
+            (λ i row.
+              ap (λ (n : ℕ). sum_below n (λ s. mul A.field (at A i s) (at (product X A) s k))) square
+              ∙ sym (at-product own xa i k row within)
+              ∙ ap (λ (C : Matrix). at C i k) again
+              ∙ at-product own one i k row within
+              ∙ ap (λ (n : ℕ). sum_below n (λ s. mul A.field (at A i s) (at (identity A.field A.rows) s k))) (sym square))
+            (λ j inside free. absurd (unfree j inside free))
+            t (omega (arith, below, square)));
+      }
