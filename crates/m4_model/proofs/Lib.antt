@@ -12,6 +12,7 @@ pub mod FormLemmas
 pub mod SingularLemmas
 pub mod ExchangeLemmas
 pub mod FactorLemmas
+pub mod TriangleLemmas
 pub mod MatrixLemmas
 pub mod Polynomials
 pub mod Division
