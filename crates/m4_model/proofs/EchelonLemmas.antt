@@ -10,7 +10,7 @@ use Rattle.m4_model.specs.Rank.{IsRising, IsFree, ArePivots}
 use Rattle.m4_model.specs.Forms.{Echelon}
 use Rattle.m4_model.proofs.FieldLaws.{FieldLaws}
 use Rattle.m4_model.proofs.FieldLemmas.{sum_below-same, sum_below-more}
-use Rattle.m4_model.proofs.SumLemmas.{sum_below-zero, sum_below-short, mul-zero_left}
+use Rattle.m4_model.proofs.SumLemmas.{xor_off, sum_below-zero, sum_below-short, mul-zero_left}
 use Rattle.m4_model.proofs.DependenceLemmas.{Combined}
 
 -- a later number of a rising list isn't smaller
@@ -94,10 +94,6 @@ extended-before p x c t before = rw (ne_eqb t p (λ same. absurd (omega (arith, 
 
 extended-after : (p x : ℕ) (c : ℕ → ℕ) (t : ℕ) → p < t → extended p x c t ≡ 0
 extended-after p x c t after = rw (ne_eqb t p (λ same. absurd (omega (arith, same, after))), le-ltb t p (omega (arith, after))) refl
-
--- a term added and taken away again
-xor_off : (a b : ℕ) → bit_xor (bit_xor a b) b ≡ a
-xor_off a b = xor_assoc a b b ∙ ap (bit_xor a) (xor_self b) ∙ xor_zero_r a
 
 module _ (F : Field) (laws : FieldLaws F) where
   -- b divided by e, times e

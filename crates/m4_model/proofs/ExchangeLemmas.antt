@@ -28,21 +28,21 @@ IsOrder-swap n order i s first second old =
     record {
       count = length-swap order i s ∙ old.count;
       below = λ k within. ⊎_elim
-        (λ (here : k ≡ i). rw (here, at-swap_first order i s in_first in_second) (old.below s second))
-        (λ (not_first : k ≢ i). ⊎_elim
+          (λ (here : k ≡ i). rw (here, at-swap_first order i s in_first in_second) (old.below s second))
+          (λ (not_first : k ≢ i). ⊎_elim
           (λ (here : k ≡ s). rw (here, at-swap_second order i s in_first in_second) (old.below i first))
           (λ (not_second : k ≢ s). rw (at-swap_other order i s k in_first in_second not_first not_second) (old.below k within))
           (cases_eq k s))
-        (cases_eq k i);
+          (cases_eq k i);
       onto = λ j within.
-        let found = old.onto j within in
-        ⊎_elim
-        (λ (here : found.0 ≡ i). (s, second, at-swap_second order i s in_first in_second ∙ ap (slice_index order) (sym here) ∙ found.2))
-        (λ (not_first : found.0 ≢ i). ⊎_elim
+          let found = old.onto j within in
+          ⊎_elim
+          (λ (here : found.0 ≡ i). (s, second, at-swap_second order i s in_first in_second ∙ ap (slice_index order) (sym here) ∙ found.2))
+          (λ (not_first : found.0 ≢ i). ⊎_elim
           (λ (here : found.0 ≡ s). (i, first, at-swap_first order i s in_first in_second ∙ ap (slice_index order) (sym here) ∙ found.2))
           (λ (not_second : found.0 ≢ s). (found.0, found.1, at-swap_other order i s found.0 in_first in_second not_first not_second ∙ found.2))
           (cases_eq found.0 s))
-        (cases_eq found.0 i);
+          (cases_eq found.0 i);
     }
 
 -- so do exchanges one after another
@@ -52,7 +52,7 @@ unfolding exchanged
 IsOrder-exchanged n i [] order room within old = old
 IsOrder-exchanged n i (s ∷ rest) order room within old =
     IsOrder-exchanged n (suc i) rest (swap order i s) (omega (arith, room)) (λ k below. within (suc k) (omega (arith, below)))
-      (IsOrder-swap n order i s (omega (arith, room)) (within 0 (omega arith)) old)
+    (IsOrder-swap n order i s (omega (arith, room)) (within 0 (omega arith)) old)
 
 -- the numbers below n are an order
 pub IsOrder-range : (n : ℕ) → IsOrder n (range_with_len 0 n)
@@ -77,8 +77,8 @@ exchanged-before i (s ∷ rest) order j before room up within =
     let inside : s < length order = within 0 (omega arith) in
     let same : length (swap order i s) ≡ length order = length-swap order i s in
     exchanged-before (suc i) rest (swap order i s) j (omega (arith, before)) (omega (arith, room, same))
-      (λ k below. let more = up (suc k) (omega (arith, below)) in omega (arith, more))
-      (λ k below. let fits = within (suc k) (omega (arith, below)) in omega (arith, fits, same))
+    (λ k below. let more = up (suc k) (omega (arith, below)) in omega (arith, more))
+    (λ k below. let fits = within (suc k) (omega (arith, below)) in omega (arith, fits, same))
     ∙ at-swap_other order i s j (omega (arith, room)) inside (λ here. absurd (omega (arith, here, before))) (λ here. absurd (omega (arith, here, before, high)))
 
 -- of a rising list of places that hold their own numbers, the k-th comes to entry i + k
@@ -95,8 +95,8 @@ exchanged-rising i (s ∷ rest) order zero short rising room up within own =
     let place : i + 0 ≡ i = omega arith in
     ap (slice_index (exchanged (suc i) rest (swap order i s))) place
     ∙ exchanged-before (suc i) rest (swap order i s) i (omega arith) (omega (arith, room, same))
-        (λ k below. let more = up (suc k) (omega (arith, below)) in omega (arith, more))
-        (λ k below. let fits = within (suc k) (omega (arith, below)) in omega (arith, fits, same))
+    (λ k below. let more = up (suc k) (omega (arith, below)) in omega (arith, more))
+    (λ k below. let fits = within (suc k) (omega (arith, below)) in omega (arith, fits, same))
     ∙ at-swap_first order i s (omega (arith, room)) inside
     ∙ own 0 (omega arith)
 exchanged-rising i (s ∷ rest) order (suc k) short rising room up within own =
@@ -106,15 +106,15 @@ exchanged-rising i (s ∷ rest) order (suc k) short rising room up within own =
     let place : i + suc k ≡ suc i + k = omega arith in
     ap (slice_index (exchanged (suc i) rest (swap order i s))) place
     ∙ exchanged-rising (suc i) rest (swap order i s) k (omega (arith, short))
-        (λ a b before below. rising (suc a) (suc b) (omega (arith, before)) (omega (arith, below)))
-        (omega (arith, room, same))
-        (λ k below. let more = up (suc k) (omega (arith, below)) in omega (arith, more))
-        (λ k below. let fits = within (suc k) (omega (arith, below)) in omega (arith, fits, same))
-        (λ k below.
-          let rises : s < slice_index rest k = rising 0 (suc k) (omega arith) (omega (arith, below)) in
-          at-swap_other order i s (slice_index rest k) (omega (arith, room)) inside
-            (λ here. absurd (omega (arith, here, rises, high))) (λ here. absurd (omega (arith, here, rises)))
-          ∙ own (suc k) (omega (arith, below)))
+    (λ a b before below. rising (suc a) (suc b) (omega (arith, before)) (omega (arith, below)))
+    (omega (arith, room, same))
+    (λ k below. let more = up (suc k) (omega (arith, below)) in omega (arith, more))
+    (λ k below. let fits = within (suc k) (omega (arith, below)) in omega (arith, fits, same))
+    (λ k below.
+    let rises : s < slice_index rest k = rising 0 (suc k) (omega arith) (omega (arith, below)) in
+    at-swap_other order i s (slice_index rest k) (omega (arith, room)) inside
+    (λ here. absurd (omega (arith, here, rises, high))) (λ here. absurd (omega (arith, here, rises)))
+    ∙ own (suc k) (omega (arith, below)))
 
 -- the k-th number of a rising list is at least k
 pub rising-at_least : (s : List ℕ) (k : ℕ) → IsRising s → k < length s → k ≤ slice_index s k
@@ -139,6 +139,6 @@ swaps-rising n s k rising room within short =
     let place : 0 + k ≡ k = omega arith in
     ap (slice_index (swaps n s)) (sym place)
     ∙ exchanged-rising 0 s (range_with_len 0 n) k short rising (omega (arith, room, count))
-      (λ k below. let least = rising-at_least s k rising below in omega (arith, least))
-      (λ k below. let fits = within k below in omega (arith, fits, count))
-      (λ k below. let e = get_or-range_with_len 0 n (slice_index s k) 0 (within k below) in omega (arith, e))
+    (λ k below. let least = rising-at_least s k rising below in omega (arith, least))
+    (λ k below. let fits = within k below in omega (arith, fits, count))
+    (λ k below. let e = get_or-range_with_len 0 n (slice_index s k) 0 (within k below) in omega (arith, e))

@@ -50,21 +50,21 @@ module _ (A : Matrix) (p q : List ℕ) (r : ℕ) (L E : Matrix) (laws : FieldLaw
       let room = rising_room q E.cols ple.e_form.rising ple.e_form.columns in
       record {
         diagonal = λ i within same.
-          let pivoted : i < length q = omega (arith, within) in
-          ple.e_form.nonzero i pivoted
+            let pivoted : i < length q = omega (arith, within) in
+            ple.e_form.nonzero i pivoted
             (ap (at E i) (sym (order_at_pivot i pivoted)) ∙ sym (upper_entry i i (omega (arith, pivoted)) (omega (arith, pivoted))) ∙ same);
         zeros = λ i j below right place.
-          let row_in : i < A.rows = omega (arith, below) in
-          let col_in : j < A.cols = omega (arith, right) in
-          let moved = order_of_ple.below j col_in in
-          upper_entry i j row_in col_in
-          ∙ ⊎_elim
+            let row_in : i < A.rows = omega (arith, below) in
+            let col_in : j < A.cols = omega (arith, right) in
+            let moved = order_of_ple.below j col_in in
+            upper_entry i j row_in col_in
+            ∙ ⊎_elim
             (λ (pivoted : i < length q). ⊎_elim
-              (λ (under : j < i).
-                let pivoted_too : j < length q = omega (arith, under, pivoted) in
-                rw (order_at_pivot j pivoted_too) (ple.e_form.before i (slice_index q j) pivoted (ple.e_form.rising j i under pivoted)))
-              (λ (rest : r ≤ i). absurd (omega (arith, rest, pivoted)))
-              place)
+            (λ (under : j < i).
+            let pivoted_too : j < length q = omega (arith, under, pivoted) in
+            rw (order_at_pivot j pivoted_too) (ple.e_form.before i (slice_index q j) pivoted (ple.e_form.rising j i under pivoted)))
+            (λ (rest : r ≤ i). absurd (omega (arith, rest, pivoted)))
+            place)
             (λ (rest : length q ≤ i). ple.e_form.below i (slice_index (swaps A.cols q) j) rest below (omega (arith, moved)))
             (cases_lt i (length q));
       }
@@ -82,12 +82,12 @@ module _ (A : Matrix) (p q : List ℕ) (r : ℕ) (L E : Matrix) (laws : FieldLaw
     u_shape = upper_shape;
     u_form = upper_form;
     entries = λ i j below right.
-      let moved = order_of_ple.below j right in
-      ple.rows i (slice_index (swaps A.cols q) j) below moved
-      ∙ at-product ple.l_shape ple.e_shape i (slice_index (swaps A.cols q) j) below moved
-      ∙ times-same A.field A.rows (at L) (at E) (at L) (at upper_of_ple) i (slice_index (swaps A.cols q) j) i j
-          (λ t within. refl) (λ t within. sym (upper_entry t j within right))
-      ∙ sym (at-product ple.l_shape upper_shape i j below right);
+        let moved = order_of_ple.below j right in
+        ple.rows i (slice_index (swaps A.cols q) j) below moved
+        ∙ at-product ple.l_shape ple.e_shape i (slice_index (swaps A.cols q) j) below moved
+        ∙ times-same A.field A.rows (at L) (at E) (at L) (at upper_of_ple) i (slice_index (swaps A.cols q) j) i j
+        (λ t within. refl) (λ t within. sym (upper_entry t j within right))
+        ∙ sym (at-product ple.l_shape upper_shape i j below right);
   }
 
 -- the entries of a matrix in which L and E are stored
@@ -97,9 +97,9 @@ module _ {F : Field} {m n : ℕ} {E : Matrix} (e : HasShape F m n E) (q : List �
   entry_stored i j below right =
       ap (λ (C : Matrix). at C i j) is_stored.table
       ∙ at_shape e (λ F m n. (i j : ℕ) → i < m → j < n → at (stored q L E) i j
-          ≡ (if nat_lt j i && nat_lt j (length q) then at L i j else if nat_lt i (length q) && nat_le (slice_index q i) j then at E i j else 0))
-          (at-table E.rows E.cols (λ i j. if nat_lt j i && nat_lt j (length q) then at L i j else if nat_lt i (length q) && nat_le (slice_index q i) j then at E i j else 0))
-          i j below right
+      ≡ (if nat_lt j i && nat_lt j (length q) then at L i j else if nat_lt i (length q) && nat_le (slice_index q i) j then at E i j else 0))
+      (at-table E.rows E.cols (λ i j. if nat_lt j i && nat_lt j (length q) then at L i j else if nat_lt i (length q) && nat_le (slice_index q i) j then at E i j else 0))
+      i j below right
 
   -- L's entries below its diagonal, in its first columns
   pub at-stored_lower : (i j : ℕ) → i < m → j < n → j < i → j < length q → at W i j ≡ at L i j
@@ -129,13 +129,13 @@ same_unit_lower {F} {m} {L} {M} r l_shape m_shape l_form m_form agree =
     let m_cols = m_shape.cols in
     same_entries l_shape m_shape (λ i j below right. ⊎_elim
     (λ (diagonal : i ≡ j). subst (λ (j : ℕ). at L i j ≡ at M i j) diagonal
-      (l_form.diagonal i (omega (arith, below)) ∙ sym (m_form.diagonal i (omega (arith, below)))))
+    (l_form.diagonal i (omega (arith, below)) ∙ sym (m_form.diagonal i (omega (arith, below)))))
     (⊎_elim
-      (λ (over : i < j). l_form.above i j over (omega (arith, right)) ∙ sym (m_form.above i j over (omega (arith, right))))
-      (λ (under : j < i). ⊎_elim
-        (λ (first : j < r). agree i j below under first)
-        (λ (rest : r ≤ j). l_form.rest i j rest under (omega (arith, below)) ∙ sym (m_form.rest i j rest under (omega (arith, below))))
-        (cases_lt j r)))
+    (λ (over : i < j). l_form.above i j over (omega (arith, right)) ∙ sym (m_form.above i j over (omega (arith, right))))
+    (λ (under : j < i). ⊎_elim
+    (λ (first : j < r). agree i j below under first)
+    (λ (rest : r ≤ j). l_form.rest i j rest under (omega (arith, below)) ∙ sym (m_form.rest i j rest under (omega (arith, below))))
+    (cases_lt j r)))
     (cases_order i j))
 
 module _ {F : Field} {m n : ℕ} {L M E D : Matrix} (q : List ℕ) (W : Matrix) (rising : IsRising q) (columns : (k : ℕ) → k < length q → slice_index q k < n)
@@ -156,17 +156,17 @@ module _ {F : Field} {m n : ℕ} {L M E D : Matrix} (q : List ℕ) (W : Matrix) 
       let d_rows = d.rows in
       let d_cols = d.cols in
       let zero : (i j : ℕ) → i < m → j < n → (length q ≤ i) ⊎ (j < slice_index q i) → at E i j ≡ at D i j
-          = λ i j below right place.
-            first.e_zeros i j (omega (arith, below)) (omega (arith, right)) place
-            ∙ sym (second.e_zeros i j (omega (arith, below)) (omega (arith, right)) place) in
+      = λ i j below right place.
+      first.e_zeros i j (omega (arith, below)) (omega (arith, right)) place
+      ∙ sym (second.e_zeros i j (omega (arith, below)) (omega (arith, right)) place) in
       same_entries e d (λ i j below right. ⊎_elim
       (λ (pivoted : i < length q). ⊎_elim
-        (λ (before : j < slice_index q i). zero i j below right (inr before))
-        (λ (from : slice_index q i ≤ j).
-          let least = rising-at_least q i rising pivoted in
-          sym (at-stored_upper e q L W first i j below right pivoted (omega (arith, least, from)) from)
-          ∙ at-stored_upper d q M W second i j below right pivoted (omega (arith, least, from)) from)
-        (cases_lt j (slice_index q i)))
+      (λ (before : j < slice_index q i). zero i j below right (inr before))
+      (λ (from : slice_index q i ≤ j).
+      let least = rising-at_least q i rising pivoted in
+      sym (at-stored_upper e q L W first i j below right pivoted (omega (arith, least, from)) from)
+      ∙ at-stored_upper d q M W second i j below right pivoted (omega (arith, least, from)) from)
+      (cases_lt j (slice_index q i)))
       (λ (rest : length q ≤ i). zero i j below right (inl rest))
       (cases_lt i (length q)))
 
@@ -177,9 +177,9 @@ module _ {F : Field} {m n : ℕ} {U : Matrix} (u : HasShape F m n U) (r : ℕ) (
   entry_stored_pluq i j below right =
       ap (λ (C : Matrix). at C i j) is_stored.table
       ∙ at_shape u (λ F m n. (i j : ℕ) → i < m → j < n → at (stored_pluq r L U) i j
-          ≡ (if nat_lt j i && nat_lt j r then at L i j else if nat_lt i r && nat_le i j then at U i j else 0))
-          (at-table U.rows U.cols (λ i j. if nat_lt j i && nat_lt j r then at L i j else if nat_lt i r && nat_le i j then at U i j else 0))
-          i j below right
+      ≡ (if nat_lt j i && nat_lt j r then at L i j else if nat_lt i r && nat_le i j then at U i j else 0))
+      (at-table U.rows U.cols (λ i j. if nat_lt j i && nat_lt j r then at L i j else if nat_lt i r && nat_le i j then at U i j else 0))
+      i j below right
 
   -- L's entries below its diagonal, in its first columns
   pub at-stored_pluq_lower : (i j : ℕ) → i < m → j < n → j < i → j < r → at W i j ≡ at L i j

@@ -13,6 +13,7 @@ pub mod SingularLemmas
 pub mod ExchangeLemmas
 pub mod FactorLemmas
 pub mod TriangleLemmas
+pub mod EquivalenceLemmas
 pub mod MatrixLemmas
 pub mod Polynomials
 pub mod Division

@@ -101,3 +101,9 @@ module _ (F : Field) (laws : FieldLaws F) where
   pub times-split : (k l : ℕ) (a b : ℕ → ℕ → ℕ) (i j : ℕ)
       → times F (k + l) a b i j ≡ bit_xor (times F k a b i j) (times F l (λ s t. a s (k + t)) (λ t s. b (k + t) s) i j)
   times-split k l a b i j = sum_below-split k l (λ t. mul F (a i t) (b t j))
+
+  -- a multiple of the left factor makes a multiple of the product
+  pub times-multiple : (l x : ℕ) (a b : ℕ → ℕ → ℕ) (i j : ℕ) → times F l (λ k t. mul F x (a k t)) b i j ≡ mul F x (times F l a b i j)
+  times-multiple l x a b i j =
+      sum_below-same l (λ t. mul F (mul F x (a i t)) (b t j)) (λ t. mul F x (mul F (a i t) (b t j))) (λ t below. laws.assoc x (a i t) (b t j))
+      ∙ sym (mul-sum_below F laws x l (λ t. mul F (a i t) (b t j)))

@@ -3,13 +3,14 @@ use Rattle.std.proofs.Common.{◌≡◌, ◌≢◌, ℕ, ◌+◌, ◌<◌, ◌�
 use Rattle.std.specs.Int.Bits.{xor_assoc, xor_zero_l, xor_zero_r, xor_self, xor_lt}
 use Rattle.std.proofs.lemmas.Nat.{xor_comm}
 use Rattle.std.proofs.Math.Pow.{pow_pos, pow_mono}
+use Rattle.std.proofs.lemmas.Bool.{cases_eq}
 use Rattle.m4_model.specs.Field.{Field, IsField, IsElement, IsExtension, gf2, sum_below, mul}
 use Rattle.m4_model.specs.Matrix.{Matrix, IsMatrix, HasShape, at, matrix_of, zero_matrix, identity, added, product}
 use Rattle.m4_model.specs.Shapes.{transposed}
 use Rattle.m4_model.proofs.FieldLaws.{FieldLaws}
 use Rattle.m4_model.proofs.Polynomials.{xor_twice, xor_zero_equal}
-use Rattle.m4_model.proofs.ProductLemmas.{times, times-same, times_assoc, times-xor_right, times-xor_left, times-zero_row, times-zero_col, times-unit_row, times-unit_col, times-transposed, unit_at}
-use Rattle.m4_model.proofs.ShapeLemmas.{IsField-shape, IsElement-shape, same_entries, HasShape-zero_matrix, at-zero_matrix, HasShape-identity, at-identity, at-added, HasShape-added, at-product, HasShape-product, at-transposed, HasShape-transposed}
+use Rattle.m4_model.proofs.ProductLemmas.{times, times-same, times_assoc, times-xor_right, times-xor_left, times-zero_row, times-zero_col, times-unit_row, times-unit_col, times-transposed, unit_at, unit_at-same, unit_at-other}
+use Rattle.m4_model.proofs.ShapeLemmas.{IsField-shape, IsElement-shape, same_entries, HasShape-zero_matrix, at-zero_matrix, HasShape-matrix_of, at-identity, at-added, HasShape-added, at-product, HasShape-product, at-transposed, HasShape-transposed}
 
 -- 1 is an element of every field
 pub IsElement-one : (F : Field) → IsField F → IsElement F 1
@@ -19,9 +20,16 @@ IsElement-one F (inr extension) =
     let four = pow_mono low in
     omega arith
 
--- the identity's shape over a field
+-- the entries of the identity are elements
+pub IsElement-unit_at : (F : Field) → IsField F → (i j : ℕ) → IsElement F (unit_at i j)
+IsElement-unit_at F field i j = ⊎_elim
+    (λ (same : i ≡ j). rw (unit_at-same i j same) (IsElement-one F field))
+    (λ (other : i ≢ j). rw (unit_at-other i j other) (pow_pos F.degree))
+    (cases_eq i j)
+
+-- the identity's shape
 pub HasShape-one : (F : Field) (n : ℕ) → IsField F → HasShape F n n (identity F n)
-HasShape-one F n field = HasShape-identity F n field (IsElement-one F field)
+HasShape-one F n field = HasShape-matrix_of F n n unit_at field (λ i j in_rows in_cols. IsElement-unit_at F field i j)
 
 module _ {F : Field} {m n : ℕ} {A B : Matrix} (a : HasShape F m n A) (b : HasShape F m n B) where
   -- sums are commutative

@@ -127,11 +127,3 @@ module _ {F : Field} {m n : ℕ} {A : Matrix} (a : HasShape F m n A) where
   pub HasShape-transposed : HasShape F n m (transposed A)
   HasShape-transposed = at_shape a (λ F m n. HasShape F n m (transposed A))
       (HasShape-matrix_of A.field A.cols A.rows (λ i j. at A j i) a.is_matrix.over_field (λ i j in_rows in_cols. a.is_matrix.elements j i in_cols in_rows))
-
--- the identity's shape
-pub HasShape-identity : (F : Field) (n : ℕ) → IsField F → 1 < 2 ^ F.degree → HasShape F n n (identity F n)
-HasShape-identity F n field one =
-    HasShape-matrix_of F n n unit_at field (λ i j in_rows in_cols. ⊎_elim
-    (λ (same : i ≡ j). rw (unit_at-same i j same) one)
-    (λ (other : i ≢ j). rw (unit_at-other i j other) (pow_pos F.degree))
-    (cases_eq i j))

@@ -37,8 +37,8 @@ module _ (A : Matrix) (laws : FieldLaws A.field) (is_matrix : IsMatrix A) where
   IsElement-relation j free t = ⊎_elim
       (λ (here : t ≡ j). rw (here, relation-here free.coefficients j) (IsElement-one A.field is_matrix.over_field))
       (⊎_elim
-        (λ (before : t < j). rw (relation-before free.coefficients j t before) (free.elements t before))
-        (λ (after : j < t). rw (relation-after free.coefficients j t after) (pow_pos A.field.degree)))
+      (λ (before : t < j). rw (relation-before free.coefficients j t before) (free.elements t before))
+      (λ (after : j < t). rw (relation-after free.coefficients j t after) (pow_pos A.field.degree)))
       (cases_order t j)
 
   -- A takes the relation of a free column to zero
@@ -47,13 +47,13 @@ module _ (A : Matrix) (laws : FieldLaws A.field) (is_matrix : IsMatrix A) where
   relation_killed j free in_cols i below =
       let term : ℕ → ℕ = λ t. mul A.field (at A i t) (relation free.coefficients j t) in
       sum_below-short (j + 1) A.cols term (omega arith)
-        (λ t from within. ap (mul A.field (at A i t)) (relation-after free.coefficients j t (omega (arith, from))) ∙ laws.annihilates (at A i t))
+      (λ t from within. ap (mul A.field (at A i t)) (relation-after free.coefficients j t (omega (arith, from))) ∙ laws.annihilates (at A i t))
       ∙ sum_below-more j term
       ∙ ap₂ bit_xor
-          (sum_below-same j term (λ t. mul A.field (free.coefficients t) (at A i t)) (λ t before.
-            ap (mul A.field (at A i t)) (relation-before free.coefficients j t before) ∙ laws.comm (at A i t) (free.coefficients t))
-          ∙ sym (free.combined i below))
-          (ap (mul A.field (at A i j)) (relation-here free.coefficients j) ∙ mul-one_right A.field laws (at A i j) (is_matrix.elements i j below in_cols))
+      (sum_below-same j term (λ t. mul A.field (free.coefficients t) (at A i t)) (λ t before.
+      ap (mul A.field (at A i t)) (relation-before free.coefficients j t before) ∙ laws.comm (at A i t) (free.coefficients t))
+      ∙ sym (free.combined i below))
+      (ap (mul A.field (at A i j)) (relation-here free.coefficients j) ∙ mul-one_right A.field laws (at A i j) (is_matrix.elements i j below in_cols))
       ∙ xor_self (at A i j)
 
   -- a free column makes a square matrix singular
@@ -61,8 +61,8 @@ module _ (A : Matrix) (laws : FieldLaws A.field) (is_matrix : IsMatrix A) where
   singular_from_free square j in_cols free =
       let v : Matrix = matrix_of A.field A.rows 1 (λ t k. relation free.coefficients j t) in
       let shape : HasShape A.field A.rows 1 v
-          = HasShape-matrix_of A.field A.rows 1 (λ t k. relation free.coefficients j t) is_matrix.over_field
-            (λ t k in_rows in_one. IsElement-relation j free t) in
+      = HasShape-matrix_of A.field A.rows 1 (λ t k. relation free.coefficients j t) is_matrix.over_field
+      (λ t k in_rows in_one. IsElement-relation j free t) in
       let own : HasShape A.field A.rows A.rows A = record { is_matrix = is_matrix; over = refl; rows = refl; cols = square } in
       let here : j < A.rows = omega arith in
       record {
@@ -70,19 +70,19 @@ module _ (A : Matrix) (laws : FieldLaws A.field) (is_matrix : IsMatrix A) where
         v = v;
         shape = shape;
         nonzero = λ same.
-          let one : 1 ≡ 0
-              = sym (relation-here free.coefficients j)
-                ∙ sym (at-matrix_of A.field A.rows 1 (λ t k. relation free.coefficients j t) j 0 here (omega arith))
-                ∙ ap (λ (C : Matrix). at C j 0) same
-                ∙ at-zero_matrix A.field A.rows 1 j 0 here (omega arith) in
-          absurd (omega (arith, one));
+            let one : 1 ≡ 0
+            = sym (relation-here free.coefficients j)
+            ∙ sym (at-matrix_of A.field A.rows 1 (λ t k. relation free.coefficients j t) j 0 here (omega arith))
+            ∙ ap (λ (C : Matrix). at C j 0) same
+            ∙ at-zero_matrix A.field A.rows 1 j 0 here (omega arith) in
+            absurd (omega (arith, one));
         killed = same_entries (HasShape-product own shape laws) (HasShape-zero_matrix A.field A.rows 1 is_matrix.over_field) (λ i k in_rows in_one.
-          at-product own shape i k in_rows in_one
-          ∙ sum_below-same A.rows (λ t. mul A.field (at A i t) (at v t k)) (λ t. mul A.field (at A i t) (relation free.coefficients j t))
-              (λ t within. ap (mul A.field (at A i t)) (at-matrix_of A.field A.rows 1 (λ t k. relation free.coefficients j t) t k within in_one))
-          ∙ ap (λ (n : ℕ). sum_below n (λ t. mul A.field (at A i t) (relation free.coefficients j t))) (sym square)
-          ∙ relation_killed j free in_cols i in_rows
-          ∙ sym (at-zero_matrix A.field A.rows 1 i k in_rows in_one));
+            at-product own shape i k in_rows in_one
+            ∙ sum_below-same A.rows (λ t. mul A.field (at A i t) (at v t k)) (λ t. mul A.field (at A i t) (relation free.coefficients j t))
+            (λ t within. ap (mul A.field (at A i t)) (at-matrix_of A.field A.rows 1 (λ t k. relation free.coefficients j t) t k within in_one))
+            ∙ ap (λ (n : ℕ). sum_below n (λ t. mul A.field (at A i t) (relation free.coefficients j t))) (sym square)
+            ∙ relation_killed j free in_cols i in_rows
+            ∙ sym (at-zero_matrix A.field A.rows 1 i k in_rows in_one));
       }
 
   -- where the equations have a solution each column of the right side is free beside the matrix
@@ -93,20 +93,20 @@ module _ (A : Matrix) (laws : FieldLaws A.field) (is_matrix : IsMatrix A) where
       free_from_dependent (HasShape-beside own b) (A.cols + k) (record {
         coefficients = λ t. if nat_lt t A.cols then at X t k else 0;
         elements = λ t before. ⊎_elim
-          (λ (left : t < A.cols). rw (lt-ltb t A.cols left) (IsElement-shape x t k left in_cols))
-          (λ (right : A.cols ≤ t). rw (le-ltb t A.cols right) (pow_pos A.field.degree))
-          (cases_lt t A.cols);
+            (λ (left : t < A.cols). rw (lt-ltb t A.cols left) (IsElement-shape x t k left in_cols))
+            (λ (right : A.cols ≤ t). rw (le-ltb t A.cols right) (pow_pos A.field.degree))
+            (cases_lt t A.cols);
         combined = λ i below.
-          at-beside_right own b i k below in_cols
-          ∙ ap (λ (C : Matrix). at C i k) (sym solves)
-          ∙ at-product own x i k below in_cols
-          ∙ sum_below-same A.cols (λ t. mul A.field (at A i t) (at X t k))
-              (λ t. mul A.field (if nat_lt t A.cols then at X t k else 0) (at (beside A B) i t))
-              (λ t left. laws.comm (at A i t) (at X t k)
-                ∙ ap₂ (mul A.field) (rw (lt-ltb t A.cols left) refl) (sym (at-beside_left own b i t below left)))
-          ∙ sym (sum_below-short A.cols (A.cols + k) (λ t. mul A.field (if nat_lt t A.cols then at X t k else 0) (at (beside A B) i t)) (omega arith)
-              (λ t right before. ap (λ (x : ℕ). mul A.field x (at (beside A B) i t)) (rw (le-ltb t A.cols right) refl)
-                ∙ mul-zero_left A.field laws (at (beside A B) i t)));
+            at-beside_right own b i k below in_cols
+            ∙ ap (λ (C : Matrix). at C i k) (sym solves)
+            ∙ at-product own x i k below in_cols
+            ∙ sum_below-same A.cols (λ t. mul A.field (at A i t) (at X t k))
+            (λ t. mul A.field (if nat_lt t A.cols then at X t k else 0) (at (beside A B) i t))
+            (λ t left. laws.comm (at A i t) (at X t k)
+            ∙ ap₂ (mul A.field) (rw (lt-ltb t A.cols left) refl) (sym (at-beside_left own b i t below left)))
+            ∙ sym (sum_below-short A.cols (A.cols + k) (λ t. mul A.field (if nat_lt t A.cols then at X t k else 0) (at (beside A B) i t)) (omega arith)
+            (λ t right before. ap (λ (x : ℕ). mul A.field x (at (beside A B) i t)) (rw (le-ltb t A.cols right) refl)
+            ∙ mul-zero_left A.field laws (at (beside A B) i t)));
       })
 
   -- a column of the right side that isn't free beside the matrix leaves no solution
@@ -122,22 +122,22 @@ module _ (A : Matrix) (laws : FieldLaws A.field) (is_matrix : IsMatrix A) where
       let xa = HasShape-product x own laws in
       let one = HasShape-one A.field A.rows is_matrix.over_field in
       let again : product A (product X A) ≡ product A (identity A.field A.rows)
-          = sym (product_assoc laws own x own) ∙ ap (λ (C : Matrix). product C A) right ∙ product-identity_left laws own
-            ∙ sym (product-identity_right laws own) in
+      = sym (product_assoc laws own x own) ∙ ap (λ (C : Matrix). product C A) right ∙ product-identity_left laws own
+      ∙ sym (product-identity_right laws own) in
       record {
         square = square;
         shape = x;
         right = right;
         left = same_entries xa one (λ t k below within.
-          same_image A laws is_matrix (λ s. at (product X A) s k) (λ s. at (identity A.field A.rows) s k)
+            same_image A laws is_matrix (λ s. at (product X A) s k) (λ s. at (identity A.field A.rows) s k)
             (λ s inside. IsElement-shape xa s k (omega (arith, inside, square)) within)
             (λ s inside. IsElement-shape one s k (omega (arith, inside, square)) within)
             (λ i row.
-              ap (λ (n : ℕ). sum_below n (λ s. mul A.field (at A i s) (at (product X A) s k))) square
-              ∙ sym (at-product own xa i k row within)
-              ∙ ap (λ (C : Matrix). at C i k) again
-              ∙ at-product own one i k row within
-              ∙ ap (λ (n : ℕ). sum_below n (λ s. mul A.field (at A i s) (at (identity A.field A.rows) s k))) (sym square))
+            ap (λ (n : ℕ). sum_below n (λ s. mul A.field (at A i s) (at (product X A) s k))) square
+            ∙ sym (at-product own xa i k row within)
+            ∙ ap (λ (C : Matrix). at C i k) again
+            ∙ at-product own one i k row within
+            ∙ ap (λ (n : ℕ). sum_below n (λ s. mul A.field (at A i s) (at (identity A.field A.rows) s k))) (sym square))
             (λ j inside free. absurd (unfree j inside free))
             t (omega (arith, below, square)));
       }

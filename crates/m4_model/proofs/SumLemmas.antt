@@ -7,6 +7,10 @@ use Rattle.m4_model.proofs.FieldLaws.{FieldLaws}
 use Rattle.m4_model.proofs.FieldLemmas.{sum_below-same}
 use Rattle.m4_model.proofs.Polynomials.{xor_exchange}
 
+-- a term added and taken away again
+pub xor_off : (a b : ℕ) → bit_xor (bit_xor a b) b ≡ a
+xor_off a b = xor_assoc a b b ∙ ap (bit_xor a) (xor_self b) ∙ xor_zero_r a
+
 -- a sum of no terms
 pub sum_below-none : (g : ℕ → ℕ) → sum_below 0 g ≡ 0
 unfolding sum_below

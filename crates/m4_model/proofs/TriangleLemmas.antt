@@ -15,7 +15,7 @@ use Rattle.m4_model.proofs.SumLemmas.{sum_below-short, mul-zero_left}
 use Rattle.m4_model.proofs.ProductLemmas.{times, times-same, times_assoc, times-xor_right, times-unit_row, times-unit_col, unit_at, unit_at-same, unit_at-other, IsElement-times}
 use Rattle.m4_model.proofs.DependenceLemmas.{unit_lower-zero}
 use Rattle.m4_model.proofs.ShapeLemmas.{IsField-shape, IsElement-shape, HasShape-matrix_of, at-matrix_of, same_entries, at-product, HasShape-product, at-identity}
-use Rattle.m4_model.proofs.RingLemmas.{IsElement-one, HasShape-one}
+use Rattle.m4_model.proofs.RingLemmas.{IsElement-unit_at, HasShape-one}
 
 -- the first k rows of the inverse: row i is row i of the identity less the multiples by row i of the rows before it
 pub solved_rows : Field → (ℕ → ℕ → ℕ) → ℕ → ℕ → ℕ → ℕ
@@ -39,14 +39,14 @@ module _ (F : Field) (left : ℕ → ℕ → ℕ) where
   solved zero i j before = absurd (omega (arith, before))
   solved (suc k) i j before =
       let kept : (n : ℕ) → n ≤ k → sum_below n (λ s. mul F (left i s) (solved_rows F left k s j)) ≡ sum_below n (λ s. mul F (left i s) (solved_rows F left (suc k) s j))
-          = λ n most. sum_below-same n (λ s. mul F (left i s) (solved_rows F left k s j)) (λ s. mul F (left i s) (solved_rows F left (suc k) s j))
-            (λ s below. ap (mul F (left i s)) (sym (solved-earlier k s j (omega (arith, below, most))))) in
+      = λ n most. sum_below-same n (λ s. mul F (left i s) (solved_rows F left k s j)) (λ s. mul F (left i s) (solved_rows F left (suc k) s j))
+      (λ s below. ap (mul F (left i s)) (sym (solved-earlier k s j (omega (arith, below, most))))) in
       ⊎_elim
       (λ (sooner : i < k).
-        solved-earlier k i j sooner ∙ solved k i j sooner ∙ ap (bit_xor (unit_at i j)) (kept i (omega (arith, sooner))))
+      solved-earlier k i j sooner ∙ solved k i j sooner ∙ ap (bit_xor (unit_at i j)) (kept i (omega (arith, sooner))))
       (λ (last : k ≤ i).
-        let same : i ≡ k = omega (arith, last, before) in
-        at_last i same kept)
+      let same : i ≡ k = omega (arith, last, before) in
+      at_last i same kept)
       (cases_lt i k)
     where
       at_last : (i : ℕ) → i ≡ k
@@ -60,58 +60,52 @@ module _ (F : Field) (left : ℕ → ℕ → ℕ) where
 
 module _ (F : Field) (field : IsField F) (laws : FieldLaws F) (m : ℕ) (left : ℕ → ℕ → ℕ) (ones : (i : ℕ) → i < m → left i i ≡ 1)
     (above : (i s : ℕ) → i < s → s < m → left i s ≡ 0) (elements : (i s : ℕ) → i < m → s < m → IsElement F (left i s)) where
-  IsElement-unit_at : (i j : ℕ) → IsElement F (unit_at i j)
-  IsElement-unit_at i j = ⊎_elim
-      (λ (same : i ≡ j). rw (unit_at-same i j same) (IsElement-one F field))
-      (λ (other : i ≢ j). rw (unit_at-other i j other) (pow_pos F.degree))
-      (cases_eq i j)
-
   -- its entries are elements
   solved-element : (k i j : ℕ) → k ≤ m → i < k → IsElement F (solved_rows F left k i j)
   solved-element zero i j most before = absurd (omega (arith, before))
   solved-element (suc k) i j most before = ⊎_elim
       (λ (sooner : i < k). rw (solved-earlier F left k i j sooner) (solved-element k i j (omega (arith, most)) sooner))
       (λ (last : k ≤ i).
-        let same : i ≡ k = omega (arith, last, before) in
-        rw (same, solved-last F left k j) (xor_lt F.degree (unit_at k j) (sum_below k (λ s. mul F (left k s) (solved_rows F left k s j)))
-          (IsElement-unit_at k j)
-          (sum_below-lt F.degree k (λ s. mul F (left k s) (solved_rows F left k s j)) (λ s below.
-            laws.closed (left k s) (solved_rows F left k s j) (elements k s (omega (arith, most)) (omega (arith, most, below)))
-              (solved-element k s j (omega (arith, most)) below)))))
+      let same : i ≡ k = omega (arith, last, before) in
+      rw (same, solved-last F left k j) (xor_lt F.degree (unit_at k j) (sum_below k (λ s. mul F (left k s) (solved_rows F left k s j)))
+      (IsElement-unit_at F field k j)
+      (sum_below-lt F.degree k (λ s. mul F (left k s) (solved_rows F left k s j)) (λ s below.
+      laws.closed (left k s) (solved_rows F left k s j) (elements k s (omega (arith, most)) (omega (arith, most, below)))
+      (solved-element k s j (omega (arith, most)) below)))))
       (cases_lt i k)
 
   -- it is an inverse on the right
   solved-right : (i j : ℕ) → i < m → times F m left (solved_rows F left m) i j ≡ unit_at i j
   solved-right i j below =
       sum_below-short (i + 1) m (λ s. mul F (left i s) (solved_rows F left m s j)) (omega (arith, below))
-        (λ s from within. ap (λ (x : ℕ). mul F x (solved_rows F left m s j)) (above i s (omega (arith, from)) within) ∙ mul-zero_left F laws (solved_rows F left m s j))
+      (λ s from within. ap (λ (x : ℕ). mul F x (solved_rows F left m s j)) (above i s (omega (arith, from)) within) ∙ mul-zero_left F laws (solved_rows F left m s j))
       ∙ sum_below-more i (λ s. mul F (left i s) (solved_rows F left m s j))
       ∙ ap (bit_xor (sum_below i (λ s. mul F (left i s) (solved_rows F left m s j))))
-          (ap (λ (x : ℕ). mul F x (solved_rows F left m i j)) (ones i below)
-          ∙ laws.unit (solved_rows F left m i j) (solved-element m i j (omega arith) below)
-          ∙ solved F left m i j below
-          ∙ xor_comm (unit_at i j) (sum_below i (λ s. mul F (left i s) (solved_rows F left m s j))))
+      (ap (λ (x : ℕ). mul F x (solved_rows F left m i j)) (ones i below)
+      ∙ laws.unit (solved_rows F left m i j) (solved-element m i j (omega arith) below)
+      ∙ solved F left m i j below
+      ∙ xor_comm (unit_at i j) (sum_below i (λ s. mul F (left i s) (solved_rows F left m s j))))
       ∙ xor_twice (sum_below i (λ s. mul F (left i s) (solved_rows F left m s j))) (unit_at i j)
 
   -- and on the left
   solved-left : (i j : ℕ) → i < m → j < m → times F m (solved_rows F left m) left i j ≡ unit_at i j
   solved-left i j below within =
       let left_in : (s : ℕ) → s < m → IsElement F (times F m (solved_rows F left m) left s j)
-          = λ s inside. IsElement-times F laws m (solved_rows F left m) left s j
-            (λ t under. solved-element m s t (omega arith) inside) (λ t under. elements t j under within) in
+      = λ s inside. IsElement-times F laws m (solved_rows F left m) left s j
+      (λ t under. solved-element m s t (omega arith) inside) (λ t under. elements t j under within) in
       let none : (s : ℕ) → s < m → sum_below m (λ t. mul F (left s t) (bit_xor (times F m (solved_rows F left m) left t j) (unit_at t j))) ≡ 0
-          = λ s inside.
-            times-xor_right F laws m left (times F m (solved_rows F left m) left) unit_at s j
-            ∙ ap₂ bit_xor
-                (sym (times_assoc F laws m m left (solved_rows F left m) left s j)
-                ∙ times-unit_row F laws m (times F m left (solved_rows F left m)) left s j s inside
-                    (λ t under. solved-right s t inside) (elements s j inside within))
-                (times-unit_col F laws m left unit_at s j j within (λ t under. refl) (elements s j inside within))
-            ∙ xor_self (left s j) in
+      = λ s inside.
+      times-xor_right F laws m left (times F m (solved_rows F left m) left) unit_at s j
+      ∙ ap₂ bit_xor
+      (sym (times_assoc F laws m m left (solved_rows F left m) left s j)
+      ∙ times-unit_row F laws m (times F m left (solved_rows F left m)) left s j s inside
+      (λ t under. solved-right s t inside) (elements s j inside within))
+      (times-unit_col F laws m left unit_at s j j within (λ t under. refl) (elements s j inside within))
+      ∙ xor_self (left s j) in
       xor_zero_equal (times F m (solved_rows F left m) left i j) (unit_at i j)
-        (unit_lower-zero F laws m left (λ s. bit_xor (times F m (solved_rows F left m) left s j) (unit_at s j)) ones above
-          (λ s inside. xor_lt F.degree (times F m (solved_rows F left m) left s j) (unit_at s j) (left_in s inside) (IsElement-unit_at s j))
-          none m i below below)
+      (unit_lower-zero F laws m left (λ s. bit_xor (times F m (solved_rows F left m) left s j) (unit_at s j)) ones above
+      (λ s inside. xor_lt F.degree (times F m (solved_rows F left m) left s j) (unit_at s j) (left_in s inside) (IsElement-unit_at F field s j))
+      none m i below below)
 
 -- a unit lower factor has an inverse
 pub inverse_of_unit_lower : {F : Field} {m : ℕ} (r : ℕ) (L : Matrix) → FieldLaws F → HasShape F m m L → IsUnitLower r L
@@ -124,21 +118,22 @@ inverse_of_unit_lower {F} {m} r L laws shape form =
     let above : (i s : ℕ) → i < s → s < m → at L i s ≡ 0 = λ i s later below. form.above i s later (omega (arith, below)) in
     let elements : (i s : ℕ) → i < m → s < m → IsElement F (at L i s) = IsElement-shape shape in
     let made : HasShape F m m (matrix_of F m m (solved_rows F (at L) m))
-        = HasShape-matrix_of F m m (solved_rows F (at L) m) field (λ i j below within. solved-element F field laws m (at L) ones above elements m i j (omega arith) below) in
+    = HasShape-matrix_of F m m (solved_rows F (at L) m) field (λ i j below within. solved-element F field laws m (at L) ones above elements m i j (omega arith) below) in
     let entry : (i j : ℕ) → i < m → j < m → at (matrix_of F m m (solved_rows F (at L) m)) i j ≡ solved_rows F (at L) m i j
-        = λ i j below within. at-matrix_of F m m (solved_rows F (at L) m) i j below within in
-    let one = HasShape-one F m field in
-    (matrix_of F m m (solved_rows F (at L) m),
-    made,
-    same_entries (HasShape-product shape made laws) one (λ i j below within.
-      at-product shape made i j below within
-      ∙ times-same F m (at L) (at (matrix_of F m m (solved_rows F (at L) m))) (at L) (solved_rows F (at L) m) i j i j
+    = λ i j below within. at-matrix_of F m m (solved_rows F (at L) m) i j below within in
+    let one = HasShape-one F m field in (
+      matrix_of F m m (solved_rows F (at L) m),
+      made,
+      same_entries (HasShape-product shape made laws) one (λ i j below within.
+          at-product shape made i j below within
+          ∙ times-same F m (at L) (at (matrix_of F m m (solved_rows F (at L) m))) (at L) (solved_rows F (at L) m) i j i j
           (λ t under. refl) (λ t under. entry t j under within)
-      ∙ solved-right F field laws m (at L) ones above elements i j below
-      ∙ sym (at-identity F m i j below within)),
-    same_entries (HasShape-product made shape laws) one (λ i j below within.
-      at-product made shape i j below within
-      ∙ times-same F m (at (matrix_of F m m (solved_rows F (at L) m))) (at L) (solved_rows F (at L) m) (at L) i j i j
+          ∙ solved-right F field laws m (at L) ones above elements i j below
+          ∙ sym (at-identity F m i j below within)),
+      same_entries (HasShape-product made shape laws) one (λ i j below within.
+          at-product made shape i j below within
+          ∙ times-same F m (at (matrix_of F m m (solved_rows F (at L) m))) (at L) (solved_rows F (at L) m) (at L) i j i j
           (λ t under. entry i t below under) (λ t under. refl)
-      ∙ solved-left F field laws m (at L) ones above elements i j below within
-      ∙ sym (at-identity F m i j below within)))
+          ∙ solved-left F field laws m (at L) ones above elements i j below within
+          ∙ sym (at-identity F m i j below within)),
+    )
