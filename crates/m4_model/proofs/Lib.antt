@@ -8,6 +8,7 @@ pub mod EchelonLemmas
 pub mod RankLemmas
 pub mod RingLemmas
 pub mod BlockLemmas
+pub mod CutLemmas
 pub mod FormLemmas
 pub mod SingularLemmas
 pub mod ExchangeLemmas
