@@ -1,13 +1,13 @@
 -- Products by blocks: of rows, of columns, of the inner index, of a part, and of rows in another order.
-use Rattle.std.proofs.Common.{◌≡◌, ◌≢◌, ℕ, ◌+◌, ◌-◌, ◌<◌, ◌≤◌, ◌^◌, ⊎_elim, refl, sym, ◌∙◌, ap, ap₂, subst, arith, bit_xor, cond, nat_lt, if◌then◌else◌}
+use Rattle.std.proofs.Common.{◌≡◌, ℕ, ◌+◌, ◌-◌, ◌<◌, ◌≤◌, ⊎_elim, refl, sym, ◌∙◌, ap, ap₂, subst, arith, bit_xor, nat_lt, if◌then◌else◌}
 use Rattle.std.proofs.lemmas.Bool.{cases_lt, lt-ltb, le-ltb}
-use Rattle.m4_model.specs.Field.{Field, IsField, IsElement, sum_below, mul}
-use Rattle.m4_model.specs.Matrix.{Matrix, IsMatrix, HasShape, at, matrix_of, added, product}
-use Rattle.m4_model.specs.Shapes.{above, beside, cut}
+use Rattle.m4_model.specs.Field.{Field, IsElement}
+use Rattle.m4_model.specs.Matrix.{Matrix, HasShape, at, matrix_of, added, product}
+use Rattle.m4_model.specs.Shapes.{above, beside}
 use Rattle.m4_model.proofs.FieldLaws.{FieldLaws}
 use Rattle.m4_model.proofs.MatrixLemmas.{at-table}
-use Rattle.m4_model.proofs.ProductLemmas.{times, times-same, times-split}
-use Rattle.m4_model.proofs.ShapeLemmas.{at_shape, IsField-shape, IsElement-shape, same_entries, HasShape-matrix_of, at-matrix_of, at-added, HasShape-added, at-product, HasShape-product}
+use Rattle.m4_model.proofs.ProductLemmas.{times-same, times-split}
+use Rattle.m4_model.proofs.ShapeLemmas.{at_shape, IsField-shape, IsElement-shape, same_entries, HasShape-matrix_of, at-added, HasShape-added, at-product, HasShape-product}
 
 module _ {F : Field} {m k n : ℕ} {A B : Matrix} (a : HasShape F m n A) (b : HasShape F k n B) where
   -- the entries of one matrix over another

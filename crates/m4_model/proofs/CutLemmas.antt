@@ -1,12 +1,12 @@
 -- Parts of matrices: their entries and shapes, matrices as their parts, and parts of sums and products.
-use Rattle.std.proofs.Common.{◌≡◌, ◌≢◌, ℕ, ◌+◌, ◌-◌, ◌<◌, ◌≤◌, refl, sym, ◌∙◌, ap, ap₂, subst, arith, bit_xor}
-use Rattle.m4_model.specs.Field.{Field, IsElement, sum_below, mul}
-use Rattle.m4_model.specs.Matrix.{Matrix, IsMatrix, HasShape, at, matrix_of, added, product}
+use Rattle.std.proofs.Common.{◌≡◌, ℕ, ◌+◌, ◌-◌, ◌<◌, ◌≤◌, refl, sym, ◌∙◌, ap, ap₂, subst, arith, bit_xor}
+use Rattle.m4_model.specs.Field.{Field}
+use Rattle.m4_model.specs.Matrix.{Matrix, HasShape, at, matrix_of, added, product}
 use Rattle.m4_model.specs.Shapes.{above, beside, cut}
 use Rattle.m4_model.proofs.FieldLaws.{FieldLaws}
 use Rattle.m4_model.proofs.MatrixLemmas.{at-table}
-use Rattle.m4_model.proofs.ProductLemmas.{times, times-same}
-use Rattle.m4_model.proofs.ShapeLemmas.{IsField-shape, IsElement-shape, HasShape-own, HasShape-matrix_of, same_entries, at-added, HasShape-added, at-product, HasShape-product}
+use Rattle.m4_model.proofs.ProductLemmas.{times-same}
+use Rattle.m4_model.proofs.ShapeLemmas.{IsField-shape, IsElement-shape, HasShape-matrix_of, same_entries, at-added, HasShape-added, at-product, HasShape-product}
 use Rattle.m4_model.proofs.BlockLemmas.{at-above_top, at-above_bottom, HasShape-above, at-beside_left, at-beside_right, HasShape-beside, same_rows, same_cols, product-blocks}
 
 -- the entries of the part of p rows from r0 on and q columns from c0 on
@@ -22,10 +22,10 @@ HasShape-cut {F} {m} {n} {A} a r0 c0 r1 c1 p q rows cols in_rows in_cols =
     let high : r1 - r0 ≡ p = omega (arith, rows) in
     let wide : c1 - c0 ≡ q = omega (arith, cols) in
     let entries : HasShape F p q (matrix_of F p q (λ i j. at A (r0 + i) (c0 + j)))
-        = HasShape-matrix_of F p q (λ i j. at A (r0 + i) (c0 + j)) (IsField-shape a)
-          (λ i j below within. IsElement-shape a (r0 + i) (c0 + j) (omega (arith, rows, in_rows, below)) (omega (arith, cols, in_cols, within))) in
+    = HasShape-matrix_of F p q (λ i j. at A (r0 + i) (c0 + j)) (IsField-shape a)
+    (λ i j below within. IsElement-shape a (r0 + i) (c0 + j) (omega (arith, rows, in_rows, below)) (omega (arith, cols, in_cols, within))) in
     let same : matrix_of F p q (λ i j. at A (r0 + i) (c0 + j)) ≡ cut A r0 c0 r1 c1
-        = λ k. matrix_of (sym a.over k) (sym high k) (sym wide k) (λ i j. at A (r0 + i) (c0 + j)) in
+    = λ k. matrix_of (sym a.over k) (sym high k) (sym wide k) (λ i j. at A (r0 + i) (c0 + j)) in
     subst (HasShape F p q) same entries
 
 module _ {F : Field} {m n : ℕ} {A : Matrix} (a : HasShape F m n A) where
@@ -36,17 +36,17 @@ module _ {F : Field} {m n : ℕ} {A : Matrix} (a : HasShape F m n A) where
       let bottom = HasShape-cut a r 0 m n k n parts (omega arith) (omega arith) (omega arith) in
       let whole : HasShape F (r + k) n A = subst (λ (m : ℕ). HasShape F m n A) (sym parts) a in
       same_rows whole (HasShape-above top bottom)
-        (λ i j below within.
-          let same : 0 + i ≡ i = omega arith in
-          let same_col : 0 + j ≡ j = omega arith in
-          sym (at-above_top top bottom i j below within
-            ∙ at-cut A 0 0 r n r n (omega arith) (omega arith) i j below within
-            ∙ rw (same, same_col) refl))
-        (λ i j below within.
-          let same_col : 0 + j ≡ j = omega arith in
-          sym (at-above_bottom top bottom i j below within
-            ∙ at-cut A r 0 m n k n parts (omega arith) i j below within
-            ∙ rw same_col refl))
+      (λ i j below within.
+      let same : 0 + i ≡ i = omega arith in
+      let same_col : 0 + j ≡ j = omega arith in
+      sym (at-above_top top bottom i j below within
+      ∙ at-cut A 0 0 r n r n (omega arith) (omega arith) i j below within
+      ∙ rw (same, same_col) refl))
+      (λ i j below within.
+      let same_col : 0 + j ≡ j = omega arith in
+      sym (at-above_bottom top bottom i j below within
+      ∙ at-cut A r 0 m n k n parts (omega arith) i j below within
+      ∙ rw same_col refl))
 
   -- and its left columns beside the others
   pub beside_cuts : (c k : ℕ) → c + k ≡ n → A ≡ beside (cut A 0 0 m c) (cut A 0 c m n)
@@ -55,17 +55,17 @@ module _ {F : Field} {m n : ℕ} {A : Matrix} (a : HasShape F m n A) where
       let right = HasShape-cut a 0 c m n m k (omega arith) parts (omega arith) (omega arith) in
       let whole : HasShape F m (c + k) A = subst (λ (n : ℕ). HasShape F m n A) (sym parts) a in
       same_cols whole (HasShape-beside left right)
-        (λ i j below within.
-          let same : 0 + i ≡ i = omega arith in
-          let same_col : 0 + j ≡ j = omega arith in
-          sym (at-beside_left left right i j below within
-            ∙ at-cut A 0 0 m c m c (omega arith) (omega arith) i j below within
-            ∙ rw (same, same_col) refl))
-        (λ i j below within.
-          let same : 0 + i ≡ i = omega arith in
-          sym (at-beside_right left right i j below within
-            ∙ at-cut A 0 c m n m k (omega arith) parts i j below within
-            ∙ rw same refl))
+      (λ i j below within.
+      let same : 0 + i ≡ i = omega arith in
+      let same_col : 0 + j ≡ j = omega arith in
+      sym (at-beside_left left right i j below within
+      ∙ at-cut A 0 0 m c m c (omega arith) (omega arith) i j below within
+      ∙ rw (same, same_col) refl))
+      (λ i j below within.
+      let same : 0 + i ≡ i = omega arith in
+      sym (at-beside_right left right i j below within
+      ∙ at-cut A 0 c m n m k (omega arith) parts i j below within
+      ∙ rw same refl))
 
   -- the whole is a part
   pub cut_whole : cut A 0 0 m n ≡ A
@@ -81,16 +81,16 @@ module _ {F : Field} {m n : ℕ} {A : Matrix} (a : HasShape F m n A) where
   cut_twice r0 c0 r1 c1 p q rows cols in_rows in_cols s0 d0 s1 d1 u v inner_rows inner_cols within_rows within_cols =
       let outer = HasShape-cut a r0 c0 r1 c1 p q rows cols in_rows in_cols in
       same_entries
-        (HasShape-cut outer s0 d0 s1 d1 u v inner_rows inner_cols within_rows within_cols)
-        (HasShape-cut a (r0 + s0) (c0 + d0) (r0 + s1) (c0 + d1) u v (omega (arith, inner_rows)) (omega (arith, inner_cols))
-          (omega (arith, rows, in_rows, within_rows)) (omega (arith, cols, in_cols, within_cols)))
-        (λ i j below within.
-        let row : r0 + (s0 + i) ≡ r0 + s0 + i = omega arith in
-        let col : c0 + (d0 + j) ≡ c0 + d0 + j = omega arith in
-        at-cut (cut A r0 c0 r1 c1) s0 d0 s1 d1 u v inner_rows inner_cols i j below within
-        ∙ at-cut A r0 c0 r1 c1 p q rows cols (s0 + i) (d0 + j) (omega (arith, inner_rows, within_rows, below)) (omega (arith, inner_cols, within_cols, within))
-        ∙ ap₂ (at A) row col
-        ∙ sym (at-cut A (r0 + s0) (c0 + d0) (r0 + s1) (c0 + d1) u v (omega (arith, inner_rows)) (omega (arith, inner_cols)) i j below within))
+      (HasShape-cut outer s0 d0 s1 d1 u v inner_rows inner_cols within_rows within_cols)
+      (HasShape-cut a (r0 + s0) (c0 + d0) (r0 + s1) (c0 + d1) u v (omega (arith, inner_rows)) (omega (arith, inner_cols))
+      (omega (arith, rows, in_rows, within_rows)) (omega (arith, cols, in_cols, within_cols)))
+      (λ i j below within.
+      let row : r0 + (s0 + i) ≡ r0 + s0 + i = omega arith in
+      let col : c0 + (d0 + j) ≡ c0 + d0 + j = omega arith in
+      at-cut (cut A r0 c0 r1 c1) s0 d0 s1 d1 u v inner_rows inner_cols i j below within
+      ∙ at-cut A r0 c0 r1 c1 p q rows cols (s0 + i) (d0 + j) (omega (arith, inner_rows, within_rows, below)) (omega (arith, inner_cols, within_cols, within))
+      ∙ ap₂ (at A) row col
+      ∙ sym (at-cut A (r0 + s0) (c0 + d0) (r0 + s1) (c0 + d1) u v (omega (arith, inner_rows)) (omega (arith, inner_cols)) i j below within))
 
 -- a part of a sum is the sum of the parts
 pub cut-added : {F : Field} {m n : ℕ} {A B : Matrix} → HasShape F m n A → HasShape F m n B → (r0 c0 r1 c1 p q : ℕ)
@@ -102,7 +102,7 @@ cut-added {F} {m} {n} {A} {B} a b r0 c0 r1 c1 p q rows cols in_rows in_cols =
     at-cut (added A B) r0 c0 r1 c1 p q rows cols i j below within
     ∙ at-added a b (r0 + i) (c0 + j) (omega (arith, rows, in_rows, below)) (omega (arith, cols, in_cols, within))
     ∙ sym (at-added cut_a cut_b i j below within
-      ∙ ap₂ bit_xor (at-cut A r0 c0 r1 c1 p q rows cols i j below within) (at-cut B r0 c0 r1 c1 p q rows cols i j below within)))
+    ∙ ap₂ bit_xor (at-cut A r0 c0 r1 c1 p q rows cols i j below within) (at-cut B r0 c0 r1 c1 p q rows cols i j below within)))
 
 module _ {F : Field} {m l n : ℕ} {A B : Matrix} (laws : FieldLaws F) (a : HasShape F m l A) (b : HasShape F l n B) where
   -- a part of a product is the product of rows and columns
@@ -115,10 +115,10 @@ module _ {F : Field} {m l n : ℕ} {A B : Matrix} (laws : FieldLaws F) (a : HasS
       at-cut (product A B) r0 c0 r1 c1 p q rows cols i j below within
       ∙ at-product a b (r0 + i) (c0 + j) (omega (arith, rows, in_rows, below)) (omega (arith, cols, in_cols, within))
       ∙ times-same F l (at A) (at B) (at (cut A r0 0 r1 l)) (at (cut B 0 c0 l c1)) (r0 + i) (c0 + j) i j
-          (λ t inside. let same : t ≡ 0 + t = omega arith in
-            ap (at A (r0 + i)) same ∙ sym (at-cut A r0 0 r1 l p l rows (omega arith) i t below inside))
-          (λ t inside. let same : t ≡ 0 + t = omega arith in
-            ap (λ (t : ℕ). at B t (c0 + j)) same ∙ sym (at-cut B 0 c0 l c1 l q (omega arith) cols t j inside within))
+      (λ t inside. let same : t ≡ 0 + t = omega arith in
+      ap (at A (r0 + i)) same ∙ sym (at-cut A r0 0 r1 l p l rows (omega arith) i t below inside))
+      (λ t inside. let same : t ≡ 0 + t = omega arith in
+      ap (λ (t : ℕ). at B t (c0 + j)) same ∙ sym (at-cut B 0 c0 l c1 l q (omega arith) cols t j inside within))
       ∙ sym (at-product cut_a cut_b i j below within))
 
   -- a product is the sum of the products of the parts at a cut of the inner index

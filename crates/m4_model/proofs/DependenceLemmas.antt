@@ -1,6 +1,6 @@
 -- Columns that are combinations of those before them: a combination passes through a factor on the left, and back
 -- through one that takes only zero to zero.
-use Rattle.std.proofs.Common.{◌≡◌, ◌≢◌, ℕ, zero, suc, ◌+◌, ◌<◌, ◌≤◌, ◌^◌, refl, sym, ◌∙◌, ap, ap₂, arith, bit_xor}
+use Rattle.std.proofs.Common.{◌≡◌, ◌≢◌, ℕ, zero, suc, ◌<◌, ◌≤◌, sym, ◌∙◌, ap, ap₂, arith, bit_xor}
 use Rattle.std.specs.Int.Bits.{xor_lt, xor_self}
 use Rattle.std.proofs.lemmas.Bool.{cases_lt}
 use Rattle.std.proofs.Common.{⊎_elim}
@@ -9,7 +9,7 @@ use Rattle.m4_model.proofs.FieldLaws.{FieldLaws}
 use Rattle.m4_model.proofs.FieldLemmas.{sum_below-same, sum_below-lt}
 use Rattle.m4_model.proofs.Polynomials.{xor_zero_equal}
 use Rattle.m4_model.proofs.SumLemmas.{sum_below-single, mul-zero_left}
-use Rattle.m4_model.proofs.ProductLemmas.{times, times-same, times_assoc, times-xor_right}
+use Rattle.m4_model.proofs.ProductLemmas.{times, times_assoc, times-xor_right}
 
 -- in the first m rows of a, column j is the combination by c of the columns before it
 abbrev pub Combined : Field → ℕ → (ℕ → ℕ → ℕ) → ℕ → (ℕ → ℕ) → Type 0

@@ -1,6 +1,6 @@
 -- In an echelon form a pivot column isn't free, and every other column is.
-use Rattle.std.proofs.Common.{◌≡◌, ◌≢◌, ℕ, zero, suc, ◌+◌, ◌<◌, ◌≤◌, ◌^◌, ◌⊎◌, inl, inr, ⊎_elim, refl, sym, ◌∙◌, ap, ap₂, arith, bit_xor, cond, nat_eq, nat_lt, if◌then◌else◌, ◌==◌, length, slice_index, List, Contains, get_or}
-use Rattle.std.specs.Int.Bits.{xor_lt, xor_self, xor_zero_l, xor_zero_r, xor_assoc}
+use Rattle.std.proofs.Common.{◌≡◌, ◌≢◌, ℕ, zero, suc, ◌+◌, ◌<◌, ◌≤◌, ◌⊎◌, inl, inr, ⊎_elim, refl, sym, ◌∙◌, ap, ap₂, arith, bit_xor, nat_lt, if◌then◌else◌, ◌==◌, length, slice_index, List, Contains}
+use Rattle.std.specs.Int.Bits.{xor_lt, xor_self, xor_zero_l}
 use Rattle.std.proofs.Math.Pow.{pow_pos}
 use Rattle.std.proofs.lemmas.List.{get_or_default}
 use Rattle.std.proofs.lemmas.Bool.{cases_lt, cases_order, eq-eqb, ne_eqb, lt-ltb, le-ltb}

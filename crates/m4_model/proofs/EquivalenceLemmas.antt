@@ -1,21 +1,17 @@
 -- Matrices with one row space: each is made from the other by a square factor on its left. Steps that keep it, and the
 -- reduced form that it makes.
-use Rattle.std.proofs.Common.{◌≡◌, ◌≢◌, ℕ, ◌+◌, ◌<◌, ◌≤◌, ◌^◌, ◌⊎◌, inl, inr, ⊎_elim, refl, sym, ◌∙◌, ap, ap₂, subst, arith, List, length, slice_index, bit_xor, cond, nat_eq, if◌then◌else◌, ◌==◌}
+use Rattle.std.proofs.Common.{◌≡◌, ℕ, ◌<◌, ◌≤◌, ◌⊎◌, inl, inr, refl, sym, ◌∙◌, ap, ap₂, arith, List, slice_index, bit_xor}
 use Rattle.std.specs.Int.Bits.{xor_lt, xor_zero_r}
-use Rattle.std.proofs.Math.Pow.{pow_pos}
-use Rattle.std.proofs.lemmas.Bool.{cases_lt, cases_eq, eq-eqb, ne_eqb}
-use Rattle.m4_model.specs.Field.{Field, IsField, IsElement, sum_below, mul}
+use Rattle.std.proofs.lemmas.Bool.{cases_lt}
+use Rattle.m4_model.specs.Field.{Field, IsField, IsElement, mul}
 use Rattle.m4_model.specs.Matrix.{Matrix, IsMatrix, HasShape, at, matrix_of, identity, product}
-use Rattle.m4_model.specs.Forms.{Echelon, Reduced, IsReduced}
+use Rattle.m4_model.specs.Forms.{Reduced, IsReduced}
 use Rattle.m4_model.specs.Factors.{IsOrder, IsUnitLower, IsPle}
 use Rattle.m4_model.proofs.FieldLaws.{FieldLaws}
-use Rattle.m4_model.proofs.FieldLemmas.{sum_below-same}
-use Rattle.m4_model.proofs.Polynomials.{xor_twice}
-use Rattle.m4_model.proofs.SumLemmas.{xor_off, sum_below-single, mul-zero_left, mul-one_right}
-use Rattle.m4_model.proofs.ProductLemmas.{times, times-same, times-unit_row, times-xor_left, times-multiple, unit_at, unit_at-same, unit_at-other}
-use Rattle.m4_model.proofs.ShapeLemmas.{IsField-shape, IsElement-shape, HasShape-own, HasShape-matrix_of, at-matrix_of, same_entries, is_product, at-product, HasShape-product}
+use Rattle.m4_model.proofs.SumLemmas.{xor_off, mul-zero_left}
+use Rattle.m4_model.proofs.ProductLemmas.{times-same, times-unit_row, times-xor_left, times-multiple, unit_at}
+use Rattle.m4_model.proofs.ShapeLemmas.{IsField-shape, IsElement-shape, HasShape-own, HasShape-matrix_of, at-matrix_of, is_product, HasShape-product}
 use Rattle.m4_model.proofs.RingLemmas.{IsElement-unit_at, HasShape-one, product_assoc, product-identity_left}
-use Rattle.m4_model.proofs.BlockLemmas.{picked_rows, at-picked_rows, HasShape-picked_rows}
 use Rattle.m4_model.proofs.TriangleLemmas.{inverse_of_unit_lower}
 
 -- each of two matrices of m rows is made from the other by an m x m factor on its left

@@ -1,8 +1,8 @@
 -- Tests by which small examples meet the definitions: what each tells when it computes to true.
-use Rattle.std.proofs.Common.{◌≡◌, ◌≢◌, ℕ, zero, suc, ◌+◌, ◌<◌, ◌≤◌, ◌⊎◌, inl, inr, ⊎_elim, refl, sym, ◌∙◌, ap, arith, Bool, true, false, not, ◌&&◌, ◌||◌, nat_eq, nat_lt, nat_le, eqb-true, ltb-true, leb-true, ltb, leb, eqb, List, length, slice_index, true≢false, lt-ltb, le-leb, eq-eqb}
+use Rattle.std.proofs.Common.{◌≡◌, ℕ, zero, suc, ◌<◌, ◌≤◌, ◌⊎◌, inl, inr, ⊎_elim, refl, sym, arith, Bool, true, false, not, ◌&&◌, ◌||◌, eqb-true, ltb-true, leb-true, ltb, leb, eqb, List, length, slice_index, true≢false, lt-ltb, le-leb}
 use Rattle.std.proofs.lemmas.Bool.{and_parts, or_cases, not-true, eqb-false, cases_lt}
 use Rattle.m4_model.specs.Field.{gf2}
-use Rattle.m4_model.specs.Matrix.{Matrix, IsMatrix, HasShape, row, at}
+use Rattle.m4_model.specs.Matrix.{Matrix, HasShape, row, at}
 use Rattle.m4_model.specs.Rank.{IsRising}
 use Rattle.m4_model.specs.Forms.{Echelon, Reduced}
 use Rattle.m4_model.specs.Factors.{IsOrder, IsUnitLower, IsUpper}

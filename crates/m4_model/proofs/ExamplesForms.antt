@@ -1,17 +1,17 @@
 -- Pivots, reduced forms, inverses, solutions, kernels and factors of small matrices over GF(2), and wrong ones refuted.
-use Rattle.std.proofs.Common.{◌≡◌, ◌≢◌, ℕ, zero, suc, ◌<◌, List, [], ◌∷◌, refl, sym, ◌∙◌, ap, arith, length, slice_index, Contains, subst, inl, inr}
+use Rattle.std.proofs.Common.{◌≡◌, ℕ, zero, suc, ◌<◌, List, [], ◌∷◌, refl, sym, ◌∙◌, ap, arith, slice_index, Contains}
 use Rattle.std.proofs.lemmas.Bool.{eqb-false}
 use Rattle.m4_model.specs.Field.{gf2, clmul, mul, sum_below, bits_within, rem_within}
-use Rattle.m4_model.specs.Matrix.{Matrix, IsMatrix, HasShape, at, table, identity, zero_matrix, product}
-use Rattle.m4_model.specs.Shapes.{transposed, swaps, exchanged}
+use Rattle.m4_model.specs.Matrix.{Matrix, HasShape, at, table, product}
+use Rattle.m4_model.specs.Shapes.{swaps, exchanged}
 use Rattle.m4_model.specs.Rank.{IsFree, ArePivots, IsRank}
-use Rattle.m4_model.specs.Forms.{Echelon, Reduced, IsReduced, IsInverse, Singular, IsSolution, NoSolution, AreFree, IsKernel}
-use Rattle.m4_model.specs.Factors.{IsPle, IsUpper, IsPluq, Stored, StoredPluq, stored, stored_pluq}
+use Rattle.m4_model.specs.Forms.{IsReduced, IsInverse, Singular, IsSolution, NoSolution, AreFree, IsKernel}
+use Rattle.m4_model.specs.Factors.{IsPle, IsPluq, Stored, StoredPluq}
 use Rattle.m4_model.proofs.FieldLaws.{FieldLaws}
 use Rattle.m4_model.proofs.FieldLemmas.{gf2_field}
 use Rattle.m4_model.proofs.FieldProofs.{field_laws}
-use Rattle.m4_model.proofs.ProductLemmas.{times, times-zero_row, unit_at}
-use Rattle.m4_model.proofs.ShapeLemmas.{HasShape-own, at-product}
+use Rattle.m4_model.proofs.ProductLemmas.{times-zero_row, unit_at}
+use Rattle.m4_model.proofs.ShapeLemmas.{at-product}
 use Rattle.m4_model.proofs.EchelonLemmas.{pivots_of_echelon}
 use Rattle.m4_model.proofs.RankLemmas.{pivots_of_ple, rank_of_ple, same_pivots, same_rank}
 use Rattle.m4_model.proofs.FormLemmas.{same_reduced, same_inverse, inverse_refuted, same_solution, solution_refuted, same_kernel}

@@ -1,16 +1,15 @@
 -- A PLE gives a PLUQ, and what is stored in place tells its factors.
-use Rattle.std.proofs.Common.{Bool, true, false, ◌≡◌, ◌≢◌, ℕ, ◌+◌, ◌<◌, ◌≤◌, ◌⊎◌, inl, inr, ⊎_elim, refl, sym, ◌∙◌, ap, subst, arith, List, length, slice_index, cond, ◌&&◌, nat_lt, nat_le, if◌then◌else◌}
+use Rattle.std.proofs.Common.{Bool, true, false, ◌≡◌, ℕ, ◌<◌, ◌≤◌, ◌⊎◌, inl, inr, ⊎_elim, refl, sym, ◌∙◌, ap, subst, arith, List, length, slice_index, ◌&&◌, nat_lt, nat_le, if◌then◌else◌}
 use Rattle.std.proofs.lemmas.Bool.{cases_lt, cases_order, lt-ltb, le-ltb, le-leb, lt-leb}
-use Rattle.m4_model.specs.Field.{Field, IsField, IsElement}
-use Rattle.m4_model.specs.Matrix.{Matrix, IsMatrix, HasShape, at, matrix_of, product}
+use Rattle.m4_model.specs.Field.{Field}
+use Rattle.m4_model.specs.Matrix.{Matrix, IsMatrix, HasShape, at}
 use Rattle.m4_model.specs.Shapes.{swaps}
-use Rattle.m4_model.specs.Rank.{IsRising, IsFree, ArePivots, IsRank}
-use Rattle.m4_model.specs.Forms.{Echelon}
+use Rattle.m4_model.specs.Rank.{IsRising}
 use Rattle.m4_model.specs.Factors.{IsOrder, IsUnitLower, IsPle, IsUpper, IsPluq, Stored, StoredPluq, stored, stored_pluq}
 use Rattle.m4_model.proofs.FieldLaws.{FieldLaws}
 use Rattle.m4_model.proofs.MatrixLemmas.{at-table}
-use Rattle.m4_model.proofs.ProductLemmas.{times, times-same}
-use Rattle.m4_model.proofs.ShapeLemmas.{at_shape, same_entries, at-matrix_of, at-product, HasShape-product}
+use Rattle.m4_model.proofs.ProductLemmas.{times-same}
+use Rattle.m4_model.proofs.ShapeLemmas.{at_shape, same_entries, at-product}
 use Rattle.m4_model.proofs.BlockLemmas.{picked_cols, at-picked_cols, HasShape-picked_cols}
 use Rattle.m4_model.proofs.ExchangeLemmas.{IsOrder-swaps, swaps-rising, rising_room, rising-at_least}
 use Rattle.m4_model.proofs.RankLemmas.{pivots_of_ple}

@@ -1,19 +1,18 @@
 -- At most one reduced form, inverse, solution and kernel basis, and none where there can't be one.
-use Rattle.std.proofs.Common.{◌≡◌, ◌≢◌, ℕ, zero, suc, ◌+◌, ◌-◌, ◌<◌, ◌≤◌, ◌^◌, ⊎_elim, ◌⊎◌, inl, inr, refl, sym, ◌∙◌, ap, ap₂, subst, arith, bit_xor, cond, nat_eq, if◌then◌else◌, ◌==◌, length, slice_index, List, Contains, get_or}
-use Rattle.std.specs.Int.Bits.{xor_self, xor_lt, xor_zero_l}
-use Rattle.std.proofs.lemmas.Bool.{cases_lt, cases_eq, cases_order}
-use Rattle.std.proofs.lemmas.List.{get_or_default}
-use Rattle.m4_model.specs.Field.{Field, IsField, IsElement, sum_below, mul}
-use Rattle.m4_model.specs.Matrix.{Matrix, IsMatrix, HasShape, at, zero_matrix, identity, added, product}
+use Rattle.std.proofs.Common.{◌≡◌, ◌≢◌, ℕ, zero, suc, ◌+◌, ◌<◌, ◌≤◌, ⊎_elim, refl, sym, ◌∙◌, ap, subst, arith, bit_xor, length, slice_index, List}
+use Rattle.std.specs.Int.Bits.{xor_self, xor_lt}
+use Rattle.std.proofs.lemmas.Bool.{cases_lt, cases_eq}
+use Rattle.m4_model.specs.Field.{IsElement, sum_below, mul}
+use Rattle.m4_model.specs.Matrix.{Matrix, IsMatrix, HasShape, at, product}
 use Rattle.m4_model.specs.Shapes.{transposed}
 use Rattle.m4_model.specs.Rank.{IsFree, ArePivots}
-use Rattle.m4_model.specs.Forms.{Echelon, Reduced, IsReduced, IsInverse, Singular, IsSolution, NoSolution, AreFree, IsKernel}
+use Rattle.m4_model.specs.Forms.{Reduced, IsReduced, IsInverse, Singular, IsSolution, NoSolution, AreFree, IsKernel}
 use Rattle.m4_model.proofs.FieldLaws.{FieldLaws}
 use Rattle.m4_model.proofs.FieldLemmas.{sum_below-same, sum_below-more}
 use Rattle.m4_model.proofs.Polynomials.{xor_zero_equal}
-use Rattle.m4_model.proofs.SumLemmas.{sum_below-zero, sum_below-short, mul-one_right, sum_below-mul, mul-sum_below, mul-zero_left}
-use Rattle.m4_model.proofs.ProductLemmas.{times, times-same, times_assoc, times-xor_right, times-unit_row, times-unit_col, times-zero_row, unit_at, unit_at-same, unit_at-other, IsElement-times}
-use Rattle.m4_model.proofs.ShapeLemmas.{at_shape, IsField-shape, IsElement-shape, HasShape-own, same_entries, HasShape-zero_matrix, at-zero_matrix, at-product, HasShape-product, at-transposed, HasShape-transposed}
+use Rattle.m4_model.proofs.SumLemmas.{sum_below-short, mul-one_right, sum_below-mul}
+use Rattle.m4_model.proofs.ProductLemmas.{times, times-same, times-xor_right, times-unit_row, times-unit_col, unit_at}
+use Rattle.m4_model.proofs.ShapeLemmas.{IsElement-shape, HasShape-own, same_entries, at-zero_matrix, at-product, HasShape-product, at-transposed, HasShape-transposed}
 use Rattle.m4_model.proofs.RingLemmas.{product_assoc, product-identity_left, product-identity_right, product-zero_right}
 use Rattle.m4_model.proofs.EchelonLemmas.{pivots_of_echelon, place_of}
 use Rattle.m4_model.proofs.RankLemmas.{AreIn, same_rising, Contains_none, same_pivots, free-product, pivots_like}

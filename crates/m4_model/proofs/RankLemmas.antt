@@ -1,18 +1,16 @@
 -- There is one list of pivots. Factors of a matrix tell its free columns, and a PLE its pivots.
-use Rattle.std.proofs.Common.{◌≡◌, ◌≢◌, ℕ, zero, suc, ◌+◌, ◌<◌, ◌≤◌, ◌⊎◌, inl, inr, ⊎_elim, refl, sym, ◌∙◌, ap, subst, arith, length, slice_index, List, Contains, get_or}
+use Rattle.std.proofs.Common.{◌≡◌, ◌≢◌, ℕ, zero, suc, ◌<◌, ◌≤◌, ◌⊎◌, inl, inr, ⊎_elim, sym, ◌∙◌, ap, subst, arith, length, slice_index, List, Contains}
 use Rattle.std.proofs.lemmas.List.{same_lists, get_or_default}
 use Rattle.std.proofs.lemmas.Bool.{cases_lt, cases_order}
 use Rattle.m4_model.specs.Field.{Field, IsElement, sum_below, mul}
 use Rattle.m4_model.specs.Matrix.{Matrix, IsMatrix, HasShape, at, product}
 use Rattle.m4_model.specs.Rank.{IsRising, IsFree, ArePivots, IsRank}
-use Rattle.m4_model.specs.Forms.{Echelon}
-use Rattle.m4_model.specs.Factors.{IsOrder, IsUnitLower, IsPle}
+use Rattle.m4_model.specs.Factors.{IsPle}
 use Rattle.m4_model.proofs.FieldLaws.{FieldLaws}
-use Rattle.m4_model.proofs.FieldLemmas.{sum_below-same}
 use Rattle.m4_model.proofs.ProductLemmas.{times}
 use Rattle.m4_model.proofs.DependenceLemmas.{Combined, Combined-times, Combined_from_times}
-use Rattle.m4_model.proofs.ShapeLemmas.{at_shape, HasShape-own, IsElement-shape, at-product}
-use Rattle.m4_model.proofs.EchelonLemmas.{rising-le, place_of, pivots_of_echelon, Contains-entry}
+use Rattle.m4_model.proofs.ShapeLemmas.{at_shape, IsElement-shape, at-product}
+use Rattle.m4_model.proofs.EchelonLemmas.{rising-le, place_of, pivots_of_echelon}
 
 -- each number of p stands in q
 abbrev pub AreIn : List ℕ → List ℕ → Type 0

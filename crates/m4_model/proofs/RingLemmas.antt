@@ -1,14 +1,14 @@
 -- Matrices as a ring: sums, products, the zero matrix, the identity and transposes.
-use Rattle.std.proofs.Common.{◌≡◌, ◌≢◌, ℕ, ◌+◌, ◌<◌, ◌≤◌, ◌^◌, inl, inr, ⊎_elim, refl, sym, ◌∙◌, ap, ap₂, subst, arith, bit_xor, cond, nat_eq, if◌then◌else◌, ◌==◌}
-use Rattle.std.specs.Int.Bits.{xor_assoc, xor_zero_l, xor_zero_r, xor_self, xor_lt}
+use Rattle.std.proofs.Common.{◌≡◌, ◌≢◌, ℕ, inl, inr, ⊎_elim, refl, sym, ◌∙◌, ap, ap₂, arith, bit_xor}
+use Rattle.std.specs.Int.Bits.{xor_assoc, xor_zero_l, xor_zero_r, xor_self}
 use Rattle.std.proofs.lemmas.Nat.{xor_comm}
 use Rattle.std.proofs.Math.Pow.{pow_pos, pow_mono}
 use Rattle.std.proofs.lemmas.Bool.{cases_eq}
-use Rattle.m4_model.specs.Field.{Field, IsField, IsElement, IsExtension, gf2, sum_below, mul}
-use Rattle.m4_model.specs.Matrix.{Matrix, IsMatrix, HasShape, at, matrix_of, zero_matrix, identity, added, product}
+use Rattle.m4_model.specs.Field.{Field, IsField, IsElement}
+use Rattle.m4_model.specs.Matrix.{Matrix, HasShape, at, zero_matrix, identity, added, product}
 use Rattle.m4_model.specs.Shapes.{transposed}
 use Rattle.m4_model.proofs.FieldLaws.{FieldLaws}
-use Rattle.m4_model.proofs.Polynomials.{xor_twice, xor_zero_equal}
+use Rattle.m4_model.proofs.Polynomials.{xor_twice}
 use Rattle.m4_model.proofs.ProductLemmas.{times, times-same, times_assoc, times-xor_right, times-xor_left, times-zero_row, times-zero_col, times-unit_row, times-unit_col, times-transposed, unit_at, unit_at-same, unit_at-other}
 use Rattle.m4_model.proofs.ShapeLemmas.{IsField-shape, IsElement-shape, same_entries, HasShape-zero_matrix, at-zero_matrix, HasShape-matrix_of, at-identity, at-added, HasShape-added, at-product, HasShape-product, at-transposed, HasShape-transposed}
 

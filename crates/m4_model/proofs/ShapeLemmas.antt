@@ -1,15 +1,14 @@
 -- Shapes of matrices: what a shape tells, the shapes of sums and products and of matrices made of parts, their entries,
 -- and equality by entries.
-use Rattle.std.proofs.Common.{◌≡◌, ◌≢◌, ℕ, ◌+◌, ◌-◌, ◌<◌, ◌≤◌, ◌^◌, refl, sym, ◌∙◌, ap, ap₂, subst, arith, bit_xor, cond, nat_eq, nat_lt, if◌then◌else◌, ◌==◌, ⊎_elim}
+use Rattle.std.proofs.Common.{◌≡◌, ℕ, ◌<◌, refl, sym, ◌∙◌, ap, subst, arith, bit_xor}
 use Rattle.std.specs.Int.Bits.{xor_lt}
 use Rattle.std.proofs.Math.Pow.{pow_pos}
-use Rattle.std.proofs.lemmas.Bool.{cases_lt, cases_eq, lt-ltb, le-ltb}
-use Rattle.m4_model.specs.Field.{Field, IsField, IsElement, sum_below, mul}
+use Rattle.m4_model.specs.Field.{Field, IsField, IsElement}
 use Rattle.m4_model.specs.Matrix.{Matrix, IsMatrix, HasShape, at, matrix_of, zero_matrix, identity, added, product}
-use Rattle.m4_model.specs.Shapes.{transposed, above, beside}
+use Rattle.m4_model.specs.Shapes.{transposed}
 use Rattle.m4_model.proofs.FieldLaws.{FieldLaws}
 use Rattle.m4_model.proofs.MatrixLemmas.{at-table, same_matrix, IsMatrix-matrix_of}
-use Rattle.m4_model.proofs.ProductLemmas.{times, unit_at, unit_at-same, unit_at-other, IsElement-times}
+use Rattle.m4_model.proofs.ProductLemmas.{times, unit_at, IsElement-times}
 
 module _ {F : Field} {m n : ℕ} {A : Matrix} where
   -- a fact about the field, the rows and the columns of a matrix is one about its shape

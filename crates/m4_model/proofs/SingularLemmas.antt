@@ -1,17 +1,16 @@
 -- A free column makes a square matrix singular, and a right side that isn't free beside the matrix has no solution.
-use Rattle.std.proofs.Common.{◌≡◌, ◌≢◌, ℕ, ◌+◌, ◌-◌, ◌<◌, ◌≤◌, ◌^◌, ⊎_elim, refl, sym, ◌∙◌, ap, ap₂, subst, arith, bit_xor, cond, nat_lt, nat_eq, if◌then◌else◌, ◌==◌}
+use Rattle.std.proofs.Common.{◌≡◌, ℕ, ◌+◌, ◌<◌, ◌≤◌, ⊎_elim, refl, sym, ◌∙◌, ap, ap₂, arith, bit_xor, nat_lt, if◌then◌else◌, ◌==◌}
 use Rattle.std.specs.Int.Bits.{xor_self}
 use Rattle.std.proofs.Math.Pow.{pow_pos}
 use Rattle.std.proofs.lemmas.Bool.{cases_lt, cases_order, lt-ltb, le-ltb, eq-eqb, ne_eqb}
-use Rattle.m4_model.specs.Field.{Field, IsElement, sum_below, mul}
-use Rattle.m4_model.specs.Matrix.{Matrix, IsMatrix, HasShape, at, matrix_of, zero_matrix, identity, product}
+use Rattle.m4_model.specs.Field.{IsElement, sum_below, mul}
+use Rattle.m4_model.specs.Matrix.{Matrix, IsMatrix, HasShape, at, matrix_of, identity, product}
 use Rattle.m4_model.specs.Shapes.{beside}
 use Rattle.m4_model.specs.Rank.{IsFree}
 use Rattle.m4_model.specs.Forms.{IsInverse, Singular, NoSolution}
 use Rattle.m4_model.proofs.FieldLaws.{FieldLaws}
 use Rattle.m4_model.proofs.FieldLemmas.{sum_below-same, sum_below-more}
 use Rattle.m4_model.proofs.SumLemmas.{sum_below-short, mul-zero_left, mul-one_right}
-use Rattle.m4_model.proofs.ProductLemmas.{times, times-same}
 use Rattle.m4_model.proofs.RingLemmas.{IsElement-one, HasShape-one, product_assoc, product-identity_left, product-identity_right}
 use Rattle.m4_model.proofs.FormLemmas.{same_image}
 use Rattle.m4_model.proofs.ShapeLemmas.{HasShape-own, HasShape-matrix_of, at-matrix_of, HasShape-zero_matrix, at-zero_matrix, IsElement-shape, same_entries, at-product, HasShape-product}

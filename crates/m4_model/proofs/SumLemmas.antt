@@ -1,7 +1,6 @@
 -- Sums of elements: a sum of zeros, of sums, of one term, in two parts, in two orders, and a product with a sum.
 use Rattle.std.proofs.Common.{◌≡◌, ◌≢◌, ℕ, zero, suc, ◌+◌, ◌-◌, ◌<◌, ◌≤◌, refl, sym, ◌∙◌, ap, ap₂, arith, bit_xor, add-zero, add-suc}
 use Rattle.std.specs.Int.Bits.{xor_assoc, xor_zero_l, xor_zero_r, xor_self}
-use Rattle.std.proofs.lemmas.Nat.{xor_comm}
 use Rattle.m4_model.specs.Field.{Field, IsElement, sum_below, mul}
 use Rattle.m4_model.proofs.FieldLaws.{FieldLaws}
 use Rattle.m4_model.proofs.FieldLemmas.{sum_below-same}

@@ -1,18 +1,16 @@
 -- The inverse of a factor with ones on its diagonal and zeros above it.
-use Rattle.std.proofs.Common.{◌≡◌, ◌≢◌, ℕ, zero, suc, ◌+◌, ◌<◌, ◌≤◌, ◌^◌, ⊎_elim, refl, sym, ◌∙◌, ap, ap₂, arith, bit_xor, cond, nat_eq, if◌then◌else◌, ◌==◌}
-use Rattle.std.specs.Int.Bits.{xor_lt, xor_self, xor_assoc, xor_zero_r}
-use Rattle.std.proofs.Math.Pow.{pow_pos}
+use Rattle.std.proofs.Common.{◌≡◌, ℕ, zero, suc, ◌+◌, ◌<◌, ◌≤◌, ⊎_elim, refl, sym, ◌∙◌, ap, ap₂, arith, bit_xor, if◌then◌else◌, ◌==◌}
+use Rattle.std.specs.Int.Bits.{xor_lt, xor_self}
 use Rattle.std.proofs.lemmas.Nat.{xor_comm}
-use Rattle.std.proofs.lemmas.Bool.{cases_lt, cases_eq, eq-eqb, ne_eqb}
+use Rattle.std.proofs.lemmas.Bool.{cases_lt, eq-eqb, ne_eqb}
 use Rattle.m4_model.specs.Field.{Field, IsField, IsElement, sum_below, mul}
 use Rattle.m4_model.specs.Matrix.{Matrix, HasShape, at, matrix_of, identity, product}
-use Rattle.m4_model.specs.Forms.{IsInverse}
 use Rattle.m4_model.specs.Factors.{IsUnitLower}
 use Rattle.m4_model.proofs.FieldLaws.{FieldLaws}
 use Rattle.m4_model.proofs.FieldLemmas.{sum_below-same, sum_below-lt, sum_below-more}
 use Rattle.m4_model.proofs.Polynomials.{xor_twice, xor_zero_equal}
 use Rattle.m4_model.proofs.SumLemmas.{sum_below-short, mul-zero_left}
-use Rattle.m4_model.proofs.ProductLemmas.{times, times-same, times_assoc, times-xor_right, times-unit_row, times-unit_col, unit_at, unit_at-same, unit_at-other, IsElement-times}
+use Rattle.m4_model.proofs.ProductLemmas.{times, times-same, times_assoc, times-xor_right, times-unit_row, times-unit_col, unit_at, IsElement-times}
 use Rattle.m4_model.proofs.DependenceLemmas.{unit_lower-zero}
 use Rattle.m4_model.proofs.ShapeLemmas.{IsField-shape, IsElement-shape, HasShape-matrix_of, at-matrix_of, same_entries, at-product, HasShape-product, at-identity}
 use Rattle.m4_model.proofs.RingLemmas.{IsElement-unit_at, HasShape-one}
