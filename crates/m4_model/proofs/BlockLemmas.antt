@@ -217,16 +217,16 @@ added-beside {F} {m} {k} {n} {A} {B} {C} {D} a b c d =
     let ac = HasShape-added a c in
     let bd = HasShape-added b d in
     same_cols (HasShape-added ab cd) (HasShape-beside ac bd)
-      (λ i j in_rows in_cols.
-        at-added ab cd i j in_rows (omega (arith, in_cols))
-        ∙ ap₂ bit_xor (at-beside_left a b i j in_rows in_cols) (at-beside_left c d i j in_rows in_cols)
-        ∙ sym (at-added a c i j in_rows in_cols)
-        ∙ sym (at-beside_left ac bd i j in_rows in_cols))
-      (λ i j in_rows in_cols.
-        at-added ab cd i (k + j) in_rows (omega (arith, in_cols))
-        ∙ ap₂ bit_xor (at-beside_right a b i j in_rows in_cols) (at-beside_right c d i j in_rows in_cols)
-        ∙ sym (at-added b d i j in_rows in_cols)
-        ∙ sym (at-beside_right ac bd i j in_rows in_cols))
+    (λ i j in_rows in_cols.
+    at-added ab cd i j in_rows (omega (arith, in_cols))
+    ∙ ap₂ bit_xor (at-beside_left a b i j in_rows in_cols) (at-beside_left c d i j in_rows in_cols)
+    ∙ sym (at-added a c i j in_rows in_cols)
+    ∙ sym (at-beside_left ac bd i j in_rows in_cols))
+    (λ i j in_rows in_cols.
+    at-added ab cd i (k + j) in_rows (omega (arith, in_cols))
+    ∙ ap₂ bit_xor (at-beside_right a b i j in_rows in_cols) (at-beside_right c d i j in_rows in_cols)
+    ∙ sym (at-added b d i j in_rows in_cols)
+    ∙ sym (at-beside_right ac bd i j in_rows in_cols))
 
 -- a matrix of four quarters
 abbrev pub quarters : Matrix → Matrix → Matrix → Matrix → Matrix
@@ -240,13 +240,13 @@ by_quarters r k c n P one two three four i j in_rows in_cols =
     let col_back : c ≤ j → c + (j - c) ≡ j = λ right. omega (arith, right) in
     ⊎_elim
     (λ (top : i < r). ⊎_elim
-      (λ (left : j < c). one i j top left)
-      (λ (right : c ≤ j). subst (P i) (col_back right) (two i (j - c) top (omega (arith, in_cols, right))))
-      (cases_lt j c))
+    (λ (left : j < c). one i j top left)
+    (λ (right : c ≤ j). subst (P i) (col_back right) (two i (j - c) top (omega (arith, in_cols, right))))
+    (cases_lt j c))
     (λ (bottom : r ≤ i). subst (λ (i : ℕ). P i j) (row_back bottom) (⊎_elim
-      (λ (left : j < c). three (i - r) j (omega (arith, in_rows, bottom)) left)
-      (λ (right : c ≤ j). subst (P (r + (i - r))) (col_back right) (four (i - r) (j - c) (omega (arith, in_rows, bottom)) (omega (arith, in_cols, right))))
-      (cases_lt j c)))
+    (λ (left : j < c). three (i - r) j (omega (arith, in_rows, bottom)) left)
+    (λ (right : c ≤ j). subst (P (r + (i - r))) (col_back right) (four (i - r) (j - c) (omega (arith, in_rows, bottom)) (omega (arith, in_cols, right))))
+    (cases_lt j c)))
     (cases_lt i r)
 
 module _ {F : Field} {r k c n : ℕ} {A B C D : Matrix} (a : HasShape F r c A) (b : HasShape F r n B) (low : HasShape F k c C) (d : HasShape F k n D) where
@@ -274,15 +274,15 @@ module _ {F : Field} {r k c n : ℕ} {A B C D : Matrix} (a : HasShape F r c A) (
 pub product-quarters : {F : Field} {r k s l c n : ℕ} {A B C D E G H K : Matrix} → FieldLaws F → HasShape F r s A → HasShape F r l B → HasShape F k s C → HasShape F k l D
     → HasShape F s c E → HasShape F s n G → HasShape F l c H → HasShape F l n K
     → product (quarters A B C D) (quarters E G H K)
-      ≡ quarters (added (product A E) (product B H)) (added (product A G) (product B K)) (added (product C E) (product D H)) (added (product C G) (product D K))
+    ≡ quarters (added (product A E) (product B H)) (added (product A G) (product B K)) (added (product C E) (product D H)) (added (product C G) (product D K))
 product-quarters laws a b c d e g h k =
     let eg = HasShape-beside e g in
     let hk = HasShape-beside h k in
     product-above laws (HasShape-beside a b) (HasShape-beside c d) (HasShape-above eg hk)
     ∙ ap₂ above
-        (product-blocks laws a b eg hk
-        ∙ ap₂ added (product-beside laws a e g) (product-beside laws b h k)
-        ∙ added-beside (HasShape-product a e laws) (HasShape-product a g laws) (HasShape-product b h laws) (HasShape-product b k laws))
-        (product-blocks laws c d eg hk
-        ∙ ap₂ added (product-beside laws c e g) (product-beside laws d h k)
-        ∙ added-beside (HasShape-product c e laws) (HasShape-product c g laws) (HasShape-product d h laws) (HasShape-product d k laws))
+    (product-blocks laws a b eg hk
+    ∙ ap₂ added (product-beside laws a e g) (product-beside laws b h k)
+    ∙ added-beside (HasShape-product a e laws) (HasShape-product a g laws) (HasShape-product b h laws) (HasShape-product b k laws))
+    (product-blocks laws c d eg hk
+    ∙ ap₂ added (product-beside laws c e g) (product-beside laws d h k)
+    ∙ added-beside (HasShape-product c e laws) (HasShape-product c g laws) (HasShape-product d h laws) (HasShape-product d k laws))

@@ -7,9 +7,7 @@ use Rattle.m4_model.specs.Shapes.{swaps, exchanged}
 use Rattle.m4_model.specs.Rank.{IsFree, ArePivots, IsRank}
 use Rattle.m4_model.specs.Forms.{IsReduced, IsInverse, Singular, IsSolution, NoSolution, AreFree, IsKernel}
 use Rattle.m4_model.specs.Factors.{IsPle, IsPluq, Stored, StoredPluq}
-use Rattle.m4_model.proofs.FieldLaws.{FieldLaws}
-use Rattle.m4_model.proofs.FieldLemmas.{gf2_field}
-use Rattle.m4_model.proofs.FieldProofs.{field_laws}
+use Rattle.m4_model.proofs.Gf2Lemmas.{gf2_laws}
 use Rattle.m4_model.proofs.ProductLemmas.{times-zero_row, unit_at}
 use Rattle.m4_model.proofs.ShapeLemmas.{at-product}
 use Rattle.m4_model.proofs.EchelonLemmas.{pivots_of_echelon}
@@ -17,9 +15,6 @@ use Rattle.m4_model.proofs.RankLemmas.{pivots_of_ple, rank_of_ple, same_pivots, 
 use Rattle.m4_model.proofs.FormLemmas.{same_reduced, same_inverse, inverse_refuted, same_solution, solution_refuted, same_kernel}
 use Rattle.m4_model.proofs.Examples.{bits}
 use Rattle.m4_model.proofs.ExampleTests.{rising_passed, upper_passed, echelon_zeros_passed, shape_passed, echelon_passed, reduced_passed, order_passed, unit_lower_passed, same_passed}
-
-gf2_laws : FieldLaws gf2
-gf2_laws = field_laws gf2 gf2_field
 
 -- what holds of 0 and 1 holds below 2
 below_two : (P : ℕ → Type 0) → P 0 → P 1 → (i : ℕ) → i < 2 → P i

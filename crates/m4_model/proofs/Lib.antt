@@ -15,11 +15,13 @@ pub mod ExchangeLemmas
 pub mod FactorLemmas
 pub mod TriangleLemmas
 pub mod EquivalenceLemmas
+pub mod StepLemmas
 pub mod MatrixLemmas
 pub mod Polynomials
 pub mod Division
 pub mod Remainder
 pub mod FieldProofs
+pub mod Gf2Lemmas
 mod Examples
 mod ExampleTests
 mod ExamplesForms

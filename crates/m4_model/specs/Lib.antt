@@ -4,6 +4,7 @@ pub mod Shapes
 pub mod Rank
 pub mod Forms
 pub mod Factors
+pub mod Step
 pub mod Text
 pub mod Words
 pub mod Outcome

@@ -11,7 +11,7 @@ mod no_memory;
 mod ring_laws;
 mod status;
 
-pub use factor_laws::law_ple;
+pub use factor_laws::{law_ple, law_ple_step};
 pub use field_laws::law_field;
 pub use form_laws::{law_inverse, law_kernel, law_reduced, law_solution};
 pub use no_memory::NoMemory;
