@@ -16,6 +16,7 @@ pub mod FactorLemmas
 pub mod TriangleLemmas
 pub mod EquivalenceLemmas
 pub mod StepLemmas
+pub mod EliminationLemmas
 pub mod MatrixLemmas
 pub mod Polynomials
 pub mod Division
