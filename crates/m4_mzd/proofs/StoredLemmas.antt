@@ -1,17 +1,18 @@
 -- Rows of stored words: how one is written, and the matrix that the words hold then.
-use Rattle.std.proofs.Common.{◌≡◌, ◌≢◌, ◌↔◌, ℕ, zero, suc, ◌+◌, ◌-◌, ◌*◌, ◌/◌, ◌%◌, ◌^◌, ◌<◌, ◌≤◌, inl, inr, min, Bool, true, false, cond, List, [], ◌∷◌, ◌++◌, length, get_or, set, take, drop, replicate, refl, sym, ◌∙◌, ap, subst, arith, bit_xor, IsTrue}
+use Rattle.std.proofs.Common.{◌≡◌, ◌≢◌, ◌↔◌, ℕ, ◌+◌, ◌-◌, ◌*◌, ◌/◌, ◌%◌, ◌^◌, ◌<◌, ◌≤◌, inl, inr, Bool, true, false, cond, List, ◌++◌, length, get_or, take, drop, replicate, refl, sym, ◌∙◌, ap, subst, arith, bit_xor, IsTrue}
 use borrow.Rule.Slice.PartMut.{put_mid}
 use Rattle.std.proofs.Math.Nat.{mul-le-mul_right}
 use Rattle.std.proofs.lemmas.Nat.Bits.{bit_at-zero}
-use Rattle.std.proofs.lemmas.List.{length-set, length-take, length-drop, length-replicate, get_or-set_same, get_or-set_other, get_or_past, get_or-take, get_or_append_left, get_or-append_right, length-append, length-take-le, get_or-drop, get_or-replicate, ext_get_or, places}
+use Rattle.std.proofs.lemmas.List.{length-take, length-drop, length-replicate, get_or_past, get_or-take, get_or_append_left, get_or-append_right, length-append, length-take-le, get_or-drop, get_or-replicate, ext_get_or}
 use Rattle.std.proofs.lemmas.Bool.{cases_eq, cases_lt, cases_order, true≢false}
-use Rattle.m4_model.specs.Field.{Field, gf2}
-use Rattle.m4_model.specs.Matrix.{Matrix, IsMatrix, row, at, table, matrix_of, zero_matrix, with_row, with_entry, row_sum}
+use Rattle.m4_model.specs.Field.{gf2}
+use Rattle.m4_model.specs.Matrix.{Matrix, IsMatrix, row, at, matrix_of, zero_matrix, with_row, with_entry, row_sum}
 use Rattle.m4_model.specs.Text.{words_per_row}
 use Rattle.m4_model.proofs.FieldLemmas.{gf2_field}
-use Rattle.m4_model.proofs.MatrixLemmas.{length-table, length-row-table, at-table, same_matrix, IsMatrix-matrix_of}
+use Rattle.m4_model.proofs.MatrixLemmas.{length-row-table, at-table, IsMatrix-matrix_of}
 use Rattle.m4_bits.specs.Bits.{bit, last_bits, masked}
 use Rattle.m4_bits.proofs.BitsLemmas.{bit-lt, bit-row_sum, bit-masked_below, bit-masked_past, length-row_sum, get_or-row_sum, length-masked}
+use Rattle.m4_mzd.proofs.RowLemmas.{with_row-matrix_of, with_entry-matrix_of}
 use Rattle.m4_mzd.specs.Stored.{words_of_row, stored_bit, held, IsStored}
 
 -- a row that stands before another ends where that one begins, or before
@@ -69,42 +70,6 @@ other_words words entries width r i within long other =
             get_or-put_mid_after words entries (r * width) width (i * width + k) late long (omega arith)
       ]
     ]))
-
--- a matrix with one row written is the matrix of the new entries
-pub with_row-matrix_of : (F : Field) (m n : ℕ) (g h : ℕ → ℕ → ℕ) (r : ℕ) (entries : List ℕ) → r < m → length entries ≡ n
-    → ((j : ℕ) → j < n → get_or entries j 0 ≡ h r j)
-    → ((i j : ℕ) → i < m → j < n → i ≢ r → h i j ≡ g i j)
-    → matrix_of F m n h ≡ with_row (matrix_of F m n g) r entries
-with_row-matrix_of F m n g h r entries in_rows long written kept =
-    let high : r < length (table m n g) = rw (length-table m n g) in_rows in
-    sym (same_matrix F m n h (with_row (matrix_of F m n g) r entries) refl refl refl
-    (length-set (table m n g) r entries ∙ length-table m n g)
-    (λ i below. elim (cases_eq i r) [
-      | inl here ↦ rw here (rw (get_or-set_same (table m n g) r entries [] high) long)
-      | inr away ↦ rw (get_or-set_other (table m n g) r i entries [] away) (length-row-table m n g i below)
-    ])
-    (λ i j below within. elim (cases_eq i r) [
-      | inl here ↦ rw here (rw (get_or-set_same (table m n g) r entries [] high) (written j within))
-      | inr away ↦
-          rw (get_or-set_other (table m n g) r i entries [] away)
-          (at-table m n g i j below within ∙ sym (kept i j below within away))
-    ]))
-
--- a matrix with one entry written is the matrix of the new entries
-pub with_entry-matrix_of : (F : Field) (m n : ℕ) (g h : ℕ → ℕ → ℕ) (r c v : ℕ) → r < m → c < n → h r c ≡ v
-    → ((i j : ℕ) → i < m → j < n → (i ≡ r → j ≡ c → ⊥) → h i j ≡ g i j)
-    → matrix_of F m n h ≡ with_entry (matrix_of F m n g) r c v
-with_entry-matrix_of F m n g h r c v in_rows in_cols changed kept =
-    let old = get_or (table m n g) r [] in
-    let wide : c < length old = rw (length-row-table m n g r in_rows) in_cols in
-    with_row-matrix_of F m n g h r (set old c v) in_rows (length-set old c v ∙ length-row-table m n g r in_rows)
-    (λ j within. elim (cases_eq j c) [
-      | inl here ↦ rw here (get_or-set_same old c v 0 wide ∙ sym changed)
-      | inr away ↦
-          get_or-set_other old c j v 0 away
-          ∙ (at-table m n g r j in_rows within ∙ sym (kept r j in_rows within (λ _ is. away is)))
-    ])
-    (λ i j below within away. kept i j below within (λ is _. away is))
 
 -- what the words hold is a matrix
 pub IsMatrix-held : (rows cols : ℕ) (words : List ℕ) → IsMatrix (held rows cols words)

@@ -96,3 +96,53 @@ impl Mzd {
         add_to_row(&mut self.words, width, r as usize, src, last);
     }
 }
+
+#[cfg(test)]
+mod tests {
+    use super::*;
+    use std::test::Fail;
+
+    fn writes_last(alloc: Global, cols: u32) -> Result<bool, NoMemory>
+        requires some { 0 < cols }
+        requires few { cols ≤ 2 ^ 24 }
+    {
+        let mut m = Mzd::zeros(alloc, 2, cols)?;
+        m.put(1, cols - 1, true);
+        Ok(m.get(1, cols - 1) && !m.get(0, cols - 1))
+    }
+
+    #[test]
+    fn entries_stand_at_borders_of_words(rt: HostRuntime) -> Result<(), Fail> {
+        assert!(rt; writes_last(rt.alloc(), 1)?);
+        assert!(rt; writes_last(rt.alloc(), 63)?);
+        assert!(rt; writes_last(rt.alloc(), 64)?);
+        assert!(rt; writes_last(rt.alloc(), 65)?);
+        assert!(rt; writes_last(rt.alloc(), 130)?);
+        Ok(())
+    }
+
+    #[test]
+    fn a_row_is_added(rt: HostRuntime) -> Result<(), Fail> {
+        let mut m = Mzd::zeros(rt.alloc(), 2, 65)?;
+        let mut from = Mzd::zeros(rt.alloc(), 1, 65)?;
+        from.put(0, 0, true);
+        from.put(0, 64, true);
+        m.put(1, 64, true);
+        m.add_row(1, &from, 0);
+        assert!(rt; m.get(1, 0));
+        assert!(rt; !m.get(1, 64));
+        assert!(rt; !m.get(0, 0));
+        Ok(())
+    }
+
+    #[test]
+    fn a_matrix_may_have_no_rows_or_no_columns(rt: HostRuntime) -> Result<(), Fail> {
+        let flat = Mzd::zeros(rt.alloc(), 0, 5)?;
+        assert_eq!(rt; (flat.rows(), flat.cols()), (0, 5));
+        let mut thin = Mzd::zeros(rt.alloc(), 3, 0)?;
+        let other = Mzd::zeros(rt.alloc(), 1, 0)?;
+        thin.add_row(2, &other, 0);
+        assert_eq!(rt; (thin.rows(), thin.cols()), (3, 0));
+        Ok(())
+    }
+}

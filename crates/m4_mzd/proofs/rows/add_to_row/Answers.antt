@@ -1,5 +1,5 @@
-use Rattle.std.proofs.Common.{◌∙◌, arith}
-use Rattle.m4_mzd.proofs.StoredLemmas.{other_words, length-words_of_row}
+use Rattle.std.proofs.Common.{arith}
+use Rattle.m4_mzd.proofs.StoredLemmas.{other_words}
 use Rattle.m4_mzd.proofs.rows.add_to_row.Goals as goal
 
 pub returns-clause-other_rows : goal.returns-clause-other_rows

@@ -1,7 +1,6 @@
-use Rattle.std.proofs.Common.{◌≡◌, ◌^◌, ◌-◌, length, sym, ◌∙◌, ap, subst}
+use Rattle.std.proofs.Common.{length, sym, ◌∙◌, ap, subst}
 use Rattle.std.proofs.lemmas.List.{with_items_is}
-use Rattle.m4_model.specs.Matrix.{Matrix}
-use Rattle.m4_mzd.specs.Stored.{words_of_row, held, IsStored}
+use Rattle.m4_mzd.specs.Stored.{held, IsStored}
 use Rattle.m4_mzd.proofs.StoredLemmas.{held_after_add, IsStored-add, long_row}
 use Rattle.m4_mzd.proofs.mzd.Mzd.add_row.Goals as goal
 

@@ -1,0 +1,4 @@
+pub mod WordsLemmas
+pub mod RunLemmas
+pub mod StepLemmas
+pub mod ProductLemmas

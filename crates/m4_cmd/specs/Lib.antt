@@ -1,0 +1,3 @@
+pub mod Job
+pub mod Run
+pub mod Steps

@@ -1,0 +1,250 @@
+//! Runs over files and sinks in memory, with what they end with.
+ghost use Rattle.std.specs.Prelude.{◌<◌};
+
+use crate::{MemShelf, MemSink, OpenGate, Status, run};
+use m4_model::NoMemory;
+use std::alloc::{AllocError, Global};
+use std::process::Abort;
+use std::test::Fail;
+
+const MUL: [&str; 3] = ["mul", "A", "B"];
+
+const LEFT: &[u8] = b"gf2 2 2\n11\n01\n";
+
+const RIGHT: &[u8] = b"gf2 2 2\n10\n11\n";
+
+const PRODUCT: &[u8] = b"gf2 2 2\n01\n11\n";
+
+/// Where a run reads and writes: the bytes of one read, the calls of the files that fail, and the room of the sinks.
+#[derive(Clone, Copy)]
+struct Outside<'a> {
+    step: usize,
+    failing: &'a [u64],
+    out_room: usize,
+    err_room: usize,
+}
+
+const AMPLE: Outside<'static> = Outside {
+    step: 4096,
+    failing: &[],
+    out_room: 4096,
+    err_room: 4096,
+};
+
+/// What a run ended with.
+#[derive(Drop)]
+struct Ended {
+    status: Status,
+    out: MemSink,
+    err: MemSink,
+}
+
+fn texts(alloc: Global, texts: &[&str]) -> Result<Vec<String>, AllocError> {
+    let mut all = Vec::new(alloc);
+    for text in texts {
+        all.push(String::from_str(alloc, text)?)?;
+    }
+    Ok(all)
+}
+
+fn file(alloc: Global, name: &str, bytes: &[u8]) -> Result<(String, Vec<u8>), AllocError> {
+    let name = String::from_str(alloc, name)?;
+    Ok((name, Vec::from_slice(alloc, bytes)?))
+}
+
+/// Runs these words over the files A and B.
+fn run_on(
+    alloc: Global,
+    words: &[&str],
+    a: &[u8],
+    b: &[u8],
+    outside: &Outside,
+) -> Result<Ended, NoMemory>
+    requires { 0 < outside.now.step }
+{
+    let words = texts(alloc, words)?;
+    let mut files = Vec::new(alloc);
+    files.push(file(alloc, "A", a)?)?;
+    files.push(file(alloc, "B", b)?)?;
+    let failing = Vec::from_slice(alloc, outside.failing)?;
+    let mut shelf = MemShelf::new(files, outside.step, failing);
+    let mut out = MemSink::new(alloc, outside.out_room, Vec::new(alloc))?;
+    let mut err = MemSink::new(alloc, outside.err_room, Vec::new(alloc))?;
+    let status = run(alloc, &words, &mut shelf, &mut out, &mut err, &OpenGate);
+    Ok(Ended { status, out, err })
+}
+
+fn assert_ended(rt: &impl Abort, ended: &Ended, status: Status, out: &[u8], err: &str) {
+    assert_eq!(rt; ended.status, status);
+    assert_eq!(rt; ended.out.taken(), out);
+    assert_eq!(rt; ended.err.taken(), err.as_bytes());
+}
+
+#[test]
+fn products(rt: HostRuntime) -> Result<(), Fail> {
+    let ones = "1".repeat(rt.alloc(), 65)?;
+    let row = format!(in rt.alloc(); "gf2 1 65\n{ones}\n")?;
+    let column = format!(in rt.alloc(); "gf2 65 1\n{}", "1\n".repeat(rt.alloc(), 65)?)?;
+    for (a, b, product) in [
+        (LEFT, RIGHT, PRODUCT),
+        (
+            b"gf2 2 0\n\n\n".as_slice(),
+            b"gf2 0 3\n".as_slice(),
+            b"gf2 2 3\n000\n000\n".as_slice(),
+        ),
+        (
+            row.as_bytes(),
+            column.as_bytes(),
+            b"gf2 1 1\n1\n".as_slice(),
+        ),
+        (
+            b"gf2 0 0\n".as_slice(),
+            b"gf2 0 0\n".as_slice(),
+            b"gf2 0 0\n".as_slice(),
+        ),
+    ] {
+        let ended = run_on(rt.alloc(), &MUL, a, b, &AMPLE)?;
+        assert_ended(&rt, &ended, Status::Done, product, "");
+    }
+    Ok(())
+}
+
+#[test]
+fn words(rt: HostRuntime) -> Result<(), Fail> {
+    let none: [&str; 0] = [];
+    for (words, word) in [
+        (none.as_slice(), 1),
+        (["multiply", "A", "B"].as_slice(), 1),
+        (["mul", "A"].as_slice(), 3),
+        (["mul", "A", "B", "C"].as_slice(), 4),
+        (["mul", "--k=9", "A", "B"].as_slice(), 2),
+        (["mul", "--k=08", "A", "B"].as_slice(), 2),
+    ] {
+        let ended = run_on(rt.alloc(), words, LEFT, RIGHT, &AMPLE)?;
+        let line = format!(in rt.alloc(); "m4lin: word {word} is not understood\n")?;
+        assert_ended(&rt, &ended, Status::Words(word), b"", line.as_str());
+    }
+    Ok(())
+}
+
+/// The texts of two operands that are refused, and with what status.
+const REFUSALS: [(&str, &str, Status); 13] = [
+    ("", "gf2 0 0\n", Status::Text { operand: 1, at: 0 }),
+    ("gf3 2 2\n11\n01\n", "", Status::Text { operand: 1, at: 2 }),
+    ("gf2e 2 7 1 1\n1\n", "", Status::Text { operand: 1, at: 3 }),
+    ("gf2 02 2\n11\n01\n", "", Status::Text { operand: 1, at: 5 }),
+    (
+        "gf2 2 2\r\n11\r\n01\r\n",
+        "",
+        Status::Text { operand: 1, at: 7 },
+    ),
+    ("gf2 2 2\n11\n01", "", Status::Text { operand: 1, at: 13 }),
+    (
+        "gf2 1 1\n1\n",
+        "gf2 1 1\n1\n\n",
+        Status::Text { operand: 2, at: 10 },
+    ),
+    (
+        "gf2 1 1\n1\n",
+        "gf2 1 1\n2\n",
+        Status::Text { operand: 2, at: 8 },
+    ),
+    (
+        "gf2 1 1\n1\n",
+        "no text",
+        Status::Text { operand: 2, at: 0 },
+    ),
+    ("gf2 65537 1\n", "", Status::Limit),
+    ("gf2 16385 16384\n", "", Status::Limit),
+    ("gf2 16384 16384\n", "", Status::Text { operand: 1, at: 16 }),
+    ("gf2 1 1\n1\n", "gf2 2 1\n1\n1\n", Status::Shape),
+];
+
+#[test]
+fn refusals(rt: HostRuntime) -> Result<(), Fail> {
+    for (a, b, status) in REFUSALS {
+        let ended = run_on(rt.alloc(), &MUL, a.as_bytes(), b.as_bytes(), &AMPLE)?;
+        assert_eq!(rt; ended.status, status, "{a:?} {b:?}");
+        assert_eq!(rt; ended.out.taken().len(), 0);
+    }
+    let ended = run_on(rt.alloc(), &MUL, b"gf2 1 1\n1\n", RIGHT, &AMPLE)?;
+    assert_ended(
+        &rt,
+        &ended,
+        Status::Shape,
+        b"",
+        "m4lin: shapes do not fit\n",
+    );
+    let tall = format!(in rt.alloc(); "gf2 65536 0\n{}", "\n".repeat(rt.alloc(), 65536)?)?;
+    let ended = run_on(rt.alloc(), &MUL, tall.as_bytes(), b"gf2 0 65536\n", &AMPLE)?;
+    assert_ended(&rt, &ended, Status::Limit, b"", "m4lin: limit passed\n");
+    Ok(())
+}
+
+#[test]
+fn texts_cut_short(rt: HostRuntime) -> Result<(), Fail> {
+    for at in 0..RIGHT.len() {
+        let ended = run_on(rt.alloc(), &MUL, LEFT, &RIGHT[..at], &AMPLE)?;
+        let at = at as u64;
+        let line = format!(in rt.alloc(); "m4lin: operand 2: bad text at byte {at}\n")?;
+        assert_ended(
+            &rt,
+            &ended,
+            Status::Text { operand: 2, at },
+            b"",
+            line.as_str(),
+        );
+    }
+    Ok(())
+}
+
+#[test]
+fn reads_that_fail(rt: HostRuntime) -> Result<(), Fail> {
+    // A start and five reads of each file, the last of which finds its end.
+    for call in 0..13 {
+        let failing = [call];
+        let outside = Outside {
+            step: 4,
+            failing: &failing,
+            ..AMPLE
+        };
+        let ended = run_on(rt.alloc(), &MUL, LEFT, RIGHT, &outside)?;
+        if call < 12 {
+            assert_ended(&rt, &ended, Status::Read, b"", "m4lin: read failed\n");
+        } else {
+            assert_ended(&rt, &ended, Status::Done, PRODUCT, "");
+        }
+    }
+    let ended = run_on(rt.alloc(), &["mul", "A", "C"], LEFT, RIGHT, &AMPLE)?;
+    assert_ended(&rt, &ended, Status::Read, b"", "m4lin: read failed\n");
+    Ok(())
+}
+
+#[test]
+fn writes_that_fail(rt: HostRuntime) -> Result<(), Fail> {
+    for room in 0..PRODUCT.len() {
+        let outside = Outside {
+            out_room: room,
+            ..AMPLE
+        };
+        let ended = run_on(rt.alloc(), &MUL, LEFT, RIGHT, &outside)?;
+        assert_ended(
+            &rt,
+            &ended,
+            Status::Write,
+            &PRODUCT[..room],
+            "m4lin: write failed\n",
+        );
+    }
+    let line = b"m4lin: operand 1: bad text at byte 9\n";
+    for room in 0..line.len() {
+        let outside = Outside {
+            err_room: room,
+            ..AMPLE
+        };
+        let ended = run_on(rt.alloc(), &MUL, b"gf2 1 1\n1", RIGHT, &outside)?;
+        assert_eq!(rt; ended.status, Status::Text { operand: 1, at: 9 });
+        assert_eq!(rt; ended.err.taken(), &line[..room]);
+    }
+    Ok(())
+}

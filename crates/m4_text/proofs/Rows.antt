@@ -1,0 +1,177 @@
+-- A matrix while its rows are read.
+use Rattle.std.proofs.Common.{◌≡◌, ℕ, ◌+◌, ◌-◌, ◌<◌, ◌≤◌, Bool, true, false, if◌then◌else◌, List, [], ◌∷◌, ◌++◌, length, get_or, set, take, drop, flat_map, refl, sym, ◌∙◌, ap, subst, arith, ◌⊎◌, inl, inr, append_assoc, append-nil, take-add, take_all, get_or-set_same, get_or-set_other, length-drop, take-append-drop, ap₂, subst₂, ◌^◌}
+use Rattle.std.proofs.lemmas.List.{length-map, length-set, length-take-le, set-get_or, set-set, set_at, drop_more, drop_all, map_more, take_more_set, flat_map_more}
+use Rattle.std.proofs.lemmas.Bool.{cases_eq}
+use Rattle.m4_model.specs.Field.{Field, gf2}
+use Rattle.m4_model.specs.Matrix.{Matrix, IsMatrix, row, with_row, with_entry}
+use Rattle.m4_model.specs.Text.{IsTextOf, header, line, text}
+use Rattle.m4_text.specs.Place.{GoesWrong, AreBits, IsLine, IsWrongText, IsBinaryDigit}
+use Rattle.m4_text.specs.Reading.{HasDigit, ReadsRow, ReadsRows}
+use Rattle.m4_text.proofs.Lines.{entries_of, line_read}
+use Rattle.m4_text.proofs.Bodies.{IsBody, body_of_rows, AreRows, AreRows-matrix, AreRows-take, wrong_text, none_wrong, longer_text}
+
+-- A row of which the first c entries are read.
+abbrev pub row_so_far : List ℕ → List ℕ → ℕ → List ℕ
+row_so_far bytes old c = entries_of (take c bytes) ++ drop c old
+
+-- before the first digit nothing has changed
+pub row_begins : (A : Matrix) (r : ℕ) (bytes : List ℕ) → A ≡ with_row A r (row_so_far bytes (row A r) 0)
+row_begins A r bytes = ap (λ (rows : List (List ℕ)). record A { entries = rows }) (sym (set-get_or A.entries r []))
+
+-- an entry of a row that was changed
+entry_changed : (A : Matrix) (r c x : ℕ) (es : List ℕ) → r < length A.entries
+    → with_entry (with_row A r es) r c x ≡ with_row A r (set es c x)
+entry_changed A r c x es inside =
+    let read : get_or (set A.entries r es) r [] ≡ es = get_or-set_same A.entries r es [] inside in
+    ap (λ (rows : List (List ℕ)). record A { entries = rows })
+    (ap (λ l. set (set A.entries r es) r (set l c x)) read ∙ set-set A.entries r es (set es c x))
+
+-- one digit more
+pub row_goes_on : (A : Matrix) (r c : ℕ) (bytes : List ℕ) (bit : Bool) → r < length A.entries → c < length (row A r)
+    → HasDigit bytes c bit
+    → with_entry (with_row A r (row_so_far bytes (row A r) c)) r c (if bit then 1 else 0) ≡ with_row A r (row_so_far bytes (row A r) (c + 1))
+row_goes_on A r c bytes bit inside in_row has =
+    let old = row A r in
+    let x : ℕ = if bit then 1 else 0 in
+    let width : length (entries_of (take c bytes)) ≡ c =
+    length-map (take c bytes) (λ byte. byte - 48) ∙ length-take-le c bytes (omega (arith, has.inside)) in
+    let value : get_or bytes c 0 - 48 ≡ x = omega (arith, has.digit) in
+    let more : entries_of (take (c + 1) bytes) ≡ entries_of (take c bytes) ++ x ∷ [] =
+    map_more (λ byte. byte - 48) bytes c 0 has.inside ∙ ap (λ d. entries_of (take c bytes) ++ d ∷ []) value in
+    let changed : set (row_so_far bytes old c) c x ≡ row_so_far bytes old (c + 1) =
+    ap (λ l. set (entries_of (take c bytes) ++ l) c x) (drop_more old c 0 in_row)
+    ∙ set_at (entries_of (take c bytes)) (get_or old c 0) (drop (c + 1) old) x c width
+    ∙ sym (append_assoc (entries_of (take c bytes)) (x ∷ []) (drop (c + 1) old))
+    ∙ ap (λ l. l ++ drop (c + 1) old) (sym more) in
+    entry_changed A r c x (row_so_far bytes old c) inside ∙ ap (λ l. with_row A r l) changed
+
+-- all digits, and the line feed
+pub row_read : (A : Matrix) (r : ℕ) (bytes : List ℕ) → length (row A r) ≡ A.cols → A.cols < length bytes
+    → ((j : ℕ) → j < A.cols → IsBinaryDigit (get_or bytes j 0)) → get_or bytes A.cols 0 ≡ 10
+    → ReadsRow bytes A (with_row A r (row_so_far bytes (row A r) A.cols)) r
+row_read A r bytes wide inside are end =
+    let read = line_read A.cols bytes inside are end in
+    let rest : drop A.cols (row A r) ≡ [] = drop_all A.cols (row A r) (omega (arith, wide)) in
+    record {
+      entries = entries_of (take A.cols bytes);
+      bits = read.0;
+      within = omega arith;
+      spelled = read.1;
+      changed = ap (λ l. with_row A r (entries_of (take A.cols bytes) ++ l)) rest ∙ ap (λ l. with_row A r l) (append-nil _);
+    }
+
+-- a digit is one of two
+pub HasDigit-binary : (bytes : List ℕ) (place : ℕ) (bit : Bool) → HasDigit bytes place bit → IsBinaryDigit (get_or bytes place 0)
+HasDigit-binary bytes place true has = (omega (arith, has.digit), omega (arith, has.digit))
+HasDigit-binary bytes place false has = (omega (arith, has.digit), omega (arith, has.digit))
+
+-- a row of a matrix with another row r is that, or as it was
+changed_row : (rows : List (List ℕ)) (r i : ℕ) (es : List ℕ) → i < length rows
+    → ((get_or (set rows r es) i [] ≡ es) ⊎ (get_or (set rows r es) i [] ≡ get_or rows i []))
+changed_row rows r i es inside =
+    elim (cases_eq i r) [
+      | inl same ↦
+          inl (ap (λ k. get_or (set rows r es) k []) same ∙ get_or-set_same rows r es [] (omega arith))
+      | inr other ↦ inr (get_or-set_other rows r i es [] other)
+    ]
+
+-- a matrix with another row of bits is one
+IsMatrix-with_row : (A : Matrix) (r : ℕ) (es : List ℕ) → IsMatrix A → A.field ≡ gf2 → AreBits A.cols es → IsMatrix (with_row A r es)
+IsMatrix-with_row A r es matrix field bits = record {
+  over_field = matrix.over_field;
+  height = length-set A.entries r es ∙ matrix.height;
+  width = λ i in_rows.
+      elim (changed_row A.entries r i es (omega (arith, matrix.height))) [
+        | inl new ↦ ap length new ∙ bits.width
+        | inr old ↦ ap length old ∙ matrix.width i in_rows
+      ];
+  elements = λ i j in_rows in_cols.
+      elim (changed_row A.entries r i es (omega (arith, matrix.height))) [
+        | inl new ↦
+            subst (λ (F : Field). get_or (get_or (set A.entries r es) i []) j 0 < 2 ^ F.degree) (sym field)
+            (subst (λ (l : List ℕ). get_or l j 0 < 2) (sym new) (bits.elements j in_cols))
+        | inr old ↦ subst (λ (l : List ℕ). get_or l j 0 < 2 ^ A.field.degree) (sym old) (matrix.elements i j in_rows in_cols)
+      ];
+}
+
+-- The header line and the lines of r rows are read into the matrix, and end before this place.
+pub record RowsSoFar (m n : ℕ) (bytes : List ℕ) (place r : ℕ) (A : Matrix) : Type 0 where
+  pub rows : A.rows ≡ m
+  pub cols : A.cols ≡ n
+  pub matrix : IsMatrix A
+  pub over_gf2 : A.field ≡ gf2
+  pub within : place ≤ length bytes
+  pub spelled : take place bytes ≡ header m n ++ flat_map line (take r A.entries)
+
+-- before the first row
+pub rows_begin : (bytes : List ℕ) (place : ℕ) (A : Matrix) → IsMatrix A → A.field ≡ gf2 → place ≤ length bytes
+    → take place bytes ≡ header A.rows A.cols → RowsSoFar A.rows A.cols bytes place 0 A
+rows_begin bytes place A matrix field within head = record {
+  rows = refl;
+  cols = refl;
+  matrix = matrix;
+  over_gf2 = field;
+  within = within;
+  spelled = head ∙ sym (append-nil (header A.rows A.cols));
+}
+
+-- one row more
+pub rows_go_on : (m n : ℕ) (bytes : List ℕ) (place r : ℕ) (A new : Matrix) → r < m → RowsSoFar m n bytes place r A
+    → ReadsRow (drop place bytes) A new r → RowsSoFar m n bytes (place + (n + 1)) (r + 1) new
+rows_go_on m n bytes place r A new below far read =
+    let es = read.entries in
+    let head = header m n in
+    let inside : r < length A.entries = omega (arith, far.rows, far.matrix.height) in
+    let next : take (n + 1) (drop place bytes) ≡ line es = ap (λ k. take (k + 1) (drop place bytes)) (sym far.cols) ∙ read.spelled in
+    let rows : take (r + 1) (set A.entries r es) ≡ take r A.entries ++ es ∷ [] = take_more_set A.entries r es inside in
+    subst (RowsSoFar m n bytes (place + (n + 1)) (r + 1)) (sym read.changed) (record {
+      rows = far.rows;
+      cols = far.cols;
+      matrix = IsMatrix-with_row A r es far.matrix far.over_gf2 read.bits;
+      over_gf2 = far.over_gf2;
+      within = omega (arith, read.within, far.cols, length-drop place bytes, far.within);
+      spelled = take-add place (n + 1) bytes ∙ ap₂ (λ x y. x ++ y) far.spelled next
+          ∙ flat_map_more line head (take r A.entries) es
+          ∙ ap (λ (l : List (List ℕ)). head ++ flat_map line l) (sym rows);
+    })
+
+-- a line that goes wrong
+pub rows_wrong : (m n : ℕ) (bytes : List ℕ) (place r k : ℕ) (A : Matrix) → r < m → RowsSoFar m n bytes place r A
+    → GoesWrong (IsLine A.cols) (drop place bytes) k → IsWrongText m n bytes (place + k)
+rows_wrong m n bytes place r k A below far found =
+    let rows = take r A.entries in
+    let many : length rows ≡ r = length-take-le r A.entries (omega (arith, far.rows, far.matrix.height)) in
+    let are : AreRows n rows = subst (λ c. AreRows c rows) far.cols (AreRows-take A.cols r A.entries (AreRows-matrix A far.matrix far.over_gf2)) in
+    let before : IsBody r n (flat_map line rows) = subst (λ c. IsBody c n (flat_map line rows)) many (body_of_rows n rows are) in
+    let wrong = wrong_text r m n below (flat_map line rows) (drop place bytes) k before
+    (subst (λ c. GoesWrong (IsLine c) (drop place bytes) k) far.cols found) in
+    let whole : (header m n ++ flat_map line rows) ++ drop place bytes ≡ bytes =
+    ap (λ l. l ++ drop place bytes) (sym far.spelled) ∙ take-append-drop place bytes in
+    let here : length (header m n ++ flat_map line rows) + k ≡ place + k =
+    ap (λ (l : List ℕ). length l + k) (sym far.spelled) ∙ ap (λ p. p + k) (length-take-le place bytes far.within) in
+    let placed : GoesWrong (IsTextOf m n) bytes (place + k) = subst₂ (GoesWrong (IsTextOf m n)) whole here wrong in
+    record { none = none_wrong (IsTextOf m n) bytes (place + k) placed; longest = placed.longest }
+
+-- all rows, spelled
+all_rows : (m n : ℕ) (bytes : List ℕ) (place : ℕ) (A : Matrix) → RowsSoFar m n bytes place m A → take place bytes ≡ text A
+all_rows m n bytes place A far =
+    far.spelled
+    ∙ ap (λ (l : List (List ℕ)). header m n ++ flat_map line l) (take_all m A.entries (omega (arith, far.rows, far.matrix.height)))
+    ∙ ap₂ (λ k l. header k l ++ flat_map line A.entries) (sym far.rows) (sym far.cols)
+
+-- all rows, and nothing behind them
+pub rows_end : (m n : ℕ) (bytes : List ℕ) (place : ℕ) (old A : Matrix) → old.rows ≡ m → old.cols ≡ n → RowsSoFar m n bytes place m A
+    → length bytes ≤ place → ReadsRows bytes old A
+rows_end m n bytes place old A many wide far end = record {
+  spelled = sym (take_all place bytes end) ∙ all_rows m n bytes place A far;
+  matrix = far.matrix;
+  over_gf2 = far.over_gf2;
+  rows = far.rows ∙ sym many;
+  cols = far.cols ∙ sym wide;
+}
+
+-- all rows, and something behind them
+pub rows_longer : (m n : ℕ) (bytes : List ℕ) (place : ℕ) (A : Matrix) → RowsSoFar m n bytes place m A
+    → place < length bytes → IsWrongText m n bytes place
+rows_longer m n bytes place A far inside =
+    longer_text m n bytes place inside (A, far.matrix, far.over_gf2, far.rows, far.cols, all_rows m n bytes place A far)

@@ -1,0 +1,26 @@
+use Rattle.std.proofs.Common.{◌≡◌, ◌++◌, ◌∷◌, [], ℕ, codes, decimal, append_assoc, ◌∙◌, sym, Ok}
+use Rattle.std.proofs.lemmas.Result.{err_from_is_err_and}
+use Rattle.m4_model.specs.Text.{header}
+use Rattle.m4_text.proofs.Headers.{header_joined}
+use Rattle.m4_text.proofs.Writes.{front_fails, piece_written, piece_fails}
+use Rattle.m4_text.proofs.write.write_header.Goals as goal
+
+-- the header line in the pieces that are written
+parts : (m n : ℕ) → header m n ≡ (codes "gf2 " ++ (decimal m ++ 32 ∷ [])) ++ (decimal n ++ 10 ∷ [])
+parts m n = sym (append_assoc (codes "gf2 ") (decimal m ++ 32 ∷ []) (decimal n ++ 10 ∷ []) ∙ header_joined m n)
+
+pub returns-in_err-write_whole : goal.returns-in_err-write_whole
+returns-in_err-write_whole g c =
+    let p = err_from_is_err_and c.from_residual.result c.from_residual.ensures.1 in
+    front_fails _ (sym (header_joined c.args.rows c.args.cols)) c.in_err-write_whole.ensures p.1
+
+pub returns-in_err-write_number : goal.returns-in_err-write_number
+returns-in_err-write_number g c =
+    let p = err_from_is_err_and c.from_residual-in_err-write_number.result c.from_residual-in_err-write_number.ensures.1 in
+    piece_fails _ (parts c.args.rows c.args.cols) c.in_ok-write_whole.ensures c.in_err-write_number.ensures p.1
+
+pub returns : goal.returns
+returns g c =
+    piece_written (parts c.args.rows c.args.cols)
+    (piece_written {result = Ok tt} (λ i. codes "gf2 " ++ (decimal c.args.rows ++ 32 ∷ [])) c.in_ok-write_whole.ensures c.in_ok-write_number.ensures)
+    c.write_number-2.ensures

@@ -1,0 +1,31 @@
+-- What the reading of digits, of one row and of all rows does to a matrix.
+use Rattle.std.specs.Prelude.{◌≡◌, ℕ, ◌+◌, ◌<◌, ◌≤◌, Bool, if◌then◌else◌, List, length, take, slice_index}
+use Rattle.m4_model.specs.Field.{gf2}
+use Rattle.m4_model.specs.Matrix.{Matrix, IsMatrix, with_row}
+use Rattle.m4_model.specs.Text.{line, text}
+use Rattle.m4_text.specs.Place.{AreBits, IsBinaryDigit}
+
+-- The digit 0 or 1 of this bit stands at this place.
+pub record HasDigit (bytes : List ℕ) (place : ℕ) (bit : Bool) : Type 0 where
+  pub inside : place < length bytes
+  pub digit : slice_index bytes place ≡ 48 + (if bit then 1 else 0)
+
+-- No digit 0 or 1 stands at this place.
+abbrev pub LacksDigit : List ℕ → ℕ → Type 0
+LacksDigit bytes place = place < length bytes → IsBinaryDigit (slice_index bytes place) → ⊥
+
+-- The bytes begin with the line of a row, and the new matrix has it for row r.
+pub record ReadsRow (bytes : List ℕ) (old new : Matrix) (r : ℕ) : Type 0 where
+  pub entries : List ℕ
+  pub bits : AreBits old.cols entries
+  pub within : old.cols + 1 ≤ length bytes
+  pub spelled : take (old.cols + 1) bytes ≡ line entries
+  pub changed : new ≡ with_row old r entries
+
+-- The bytes are the text of the new matrix, which has the shape of the old.
+pub record ReadsRows (bytes : List ℕ) (old new : Matrix) : Type 0 where
+  pub spelled : bytes ≡ text new
+  pub matrix : IsMatrix new
+  pub over_gf2 : new.field ≡ gf2
+  pub rows : new.rows ≡ old.rows
+  pub cols : new.cols ≡ old.cols
