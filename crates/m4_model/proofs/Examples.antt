@@ -1,7 +1,7 @@
 -- The definitions on small cases that a reader can work by hand.
-use Rattle.std.proofs.Common.{◌≡◌, ℕ, List, [], ◌∷◌, refl, Ok, Err, codes}
+use Rattle.std.proofs.Common.{◌≡◌, ℕ, List, [], ◌∷◌, refl, Ok, Err, codes, arith}
 use Rattle.std.specs.Fmt.{digits}
-use Rattle.m4_model.specs.Field.{gf2, clmul, mul, sum_below, bits_within, rem_within}
+use Rattle.m4_model.specs.Field.{gf2, IsExtension, clmul, mul, sum_below, bits_within, rem_within}
 use Rattle.m4_model.specs.Matrix.{Matrix, table, product}
 use Rattle.m4_model.specs.Shapes.{transposed, above, beside, cut, replace, swaps, exchanged}
 use Rattle.m4_model.specs.Text.{text}
@@ -19,6 +19,20 @@ inverse_elements = refl
 x_to_the_fourth : mul (record { degree = 4; poly = 0x1f }) 2 8 ≡ 0xf
 unfolding mul clmul sum_below bits_within rem_within
 x_to_the_fourth = refl
+
+-- x times x^3 is x + 1 modulo 13, and x times x is x + 1 modulo 7
+x_to_the_fourth_by_another : mul (record { degree = 4; poly = 0x13 }) 2 8 ≡ 3
+unfolding mul clmul sum_below bits_within rem_within
+x_to_the_fourth_by_another = refl
+
+x_squared : mul (record { degree = 2; poly = 7 }) 2 2 ≡ 3
+unfolding mul clmul sum_below bits_within rem_within
+x_squared = refl
+
+-- hexadecimal 15 is 7 times 7, so it makes no field
+reducible_makes_no_field : IsExtension (record { degree = 4; poly = 0x15 }) → ⊥
+unfolding clmul sum_below bits_within
+reducible_makes_no_field extension = extension.irreducible 7 7 (omega arith) (omega arith) (omega arith) (omega arith) refl
 
 -- 11/01 times 10/11 is 01/11
 small_product : text (product (bits 2 2 ((1 ∷ 1 ∷ []) ∷ (0 ∷ 1 ∷ []) ∷ [])) (bits 2 2 ((1 ∷ 0 ∷ []) ∷ (1 ∷ 1 ∷ []) ∷ []))) ≡ codes "gf2 2 2\n01\n11\n"
