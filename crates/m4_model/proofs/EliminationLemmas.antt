@@ -59,7 +59,7 @@ ple_from_partial A p q r L S partial =
       rows = λ i j below within. partial.rows i j below within ∙ sym (at-product partial.l_shape partial.s_shape i j below within);
     }
 
--- the entries of the identity, as a factor
+-- the identity as a unit lower factor
 IsUnitLower-identity : {F : Field} (m : ℕ) → IsUnitLower 0 (identity F m)
 IsUnitLower-identity {F} m = record {
   diagonal = λ i below. at-identity F m i i below below ∙ unit_at-same i i refl;

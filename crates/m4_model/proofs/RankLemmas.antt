@@ -120,15 +120,15 @@ pivots_like A B q cols there back pivots = record {
 }
 
 module _ (A : Matrix) (p q : List ℕ) (r : ℕ) (L E : Matrix) (laws : FieldLaws A.field) (is_matrix : IsMatrix A) (ple : IsPle A p q r L E) where
-  private_row : (i j : ℕ) → i < A.rows → j < A.cols → at A (slice_index p i) j ≡ times A.field A.rows (at L) (at E) i j
-  private_row i j in_rows in_cols = ple.rows i j in_rows in_cols ∙ at-product ple.l_shape ple.e_shape i j in_rows in_cols
+  row_of_ple : (i j : ℕ) → i < A.rows → j < A.cols → at A (slice_index p i) j ≡ times A.field A.rows (at L) (at E) i j
+  row_of_ple i j in_rows in_cols = ple.rows i j in_rows in_cols ∙ at-product ple.l_shape ple.e_shape i j in_rows in_cols
 
   -- what is free in E is free in A
   free_from_e : (j : ℕ) → j < A.cols → IsFree E j → IsFree A j
   free_from_e j within free =
       let given = dependent_from_free ple.e_shape j free in
       let through = Combined-times A.field laws A.rows A.rows (at L) (at E) (λ i t. at A (slice_index p i) t) j given.coefficients
-      (λ i t below before. private_row i t below (omega (arith, before, within))) given.combined in
+      (λ i t below before. row_of_ple i t below (omega (arith, before, within))) given.combined in
       record {
         coefficients = given.coefficients;
         elements = given.elements;
@@ -150,7 +150,7 @@ module _ (A : Matrix) (p q : List ℕ) (r : ℕ) (L E : Matrix) (laws : FieldLaw
             (λ i s later below. ple.l_form.above i s later (omega (arith, below)))
             free.elements
             (λ i t below before. IsElement-shape ple.e_shape i t below (omega (arith, before, within)))
-            (λ i t below before. private_row i t below (omega (arith, before, within)))
+            (λ i t below before. row_of_ple i t below (omega (arith, before, within)))
             (λ i below. free.combined (slice_index p i) (ple.order.below i below));
       })
 

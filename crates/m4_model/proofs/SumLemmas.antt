@@ -10,11 +10,6 @@ use Rattle.m4_model.proofs.Polynomials.{xor_exchange}
 pub xor_off : (a b : ℕ) → bit_xor (bit_xor a b) b ≡ a
 xor_off a b = xor_assoc a b b ∙ ap (bit_xor a) (xor_self b) ∙ xor_zero_r a
 
--- a sum of no terms
-pub sum_below-none : (g : ℕ → ℕ) → sum_below 0 g ≡ 0
-unfolding sum_below
-sum_below-none g = refl
-
 -- a sum of zeros is 0
 pub sum_below-zero : (n : ℕ) (g : ℕ → ℕ) → ((i : ℕ) → i < n → g i ≡ 0) → sum_below n g ≡ 0
 unfolding sum_below
