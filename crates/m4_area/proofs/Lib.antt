@@ -1,0 +1,10 @@
+pub mod Crosses
+pub mod Loans
+pub mod PartLemmas
+pub mod Parts
+pub mod RowLemmas
+pub mod ShapeLemmas
+pub mod TiedLemmas
+pub mod Vecs
+pub mod ViewLemmas
+pub mod Walks

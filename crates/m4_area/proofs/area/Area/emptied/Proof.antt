@@ -1,0 +1,47 @@
+-- `emptied` makes an area that owns nothing. Assumes `Logic`.
+use Rattle.std.proofs.Common.{List, [], ◌∷◌, ◌++◌, refl}
+use Rattle.std.proofs.raw_atomic.Walks.{proved_at}
+use Rattle.std.proofs.alloc.Calls.{Goes-blank}
+use mir.Val.{Val}
+use prog.Wp.{WpFn}
+use contract.Running.{tables}
+use types.Kit.{‵, raw, ◌⊛◌, prop, ◌$◌, ◌∵◌, !, qed, move, keep, drop, split, fsplit, fjoin, feq_l, regoal, suffices, done}
+use types.Part.{agg}
+use types.Run.{enter, returns, no_more}
+use types.ByLocal.{alloc_all, pass_all, free_all, look_at, sets}
+use denote.Builtin.{RefOf}
+use denote.Exit.{yes}
+use denote.RattleType.{owns}
+use denote.Signature.{plain, types_at}
+use denote.Steps.{nothing}
+use denote.Triple.Entry.{alive}
+use denote.Triple.Walked.{Stays, walk_of, stay_dropped, ends_at, says}
+use Rattle.m4_area.proofs.Walks.{A, none, area_made}
+use Rattle.m4_area.specs.contracts.area.Area.emptied as f
+use Rattle.m4_area.proofs.area.Area.emptied.Statement.{statement}
+use Rattle.m4_area.proofs.area.Area.emptied.Code as code
+
+abbrev stayed : Stays f.ended.signature.params f.ended.kept
+stayed = (stay_dropped (RefOf (0 ∷ []) tt (plain (λ _. A)) (λ _. tt)) yes, tt)
+
+pub emptied_spec : {M : Type 1} → statement M
+emptied_spec 𝓤 𝓛 𝓜 𝓡 wired =
+    let c = f.clauses 𝓛 𝓜.mem 𝓡.returns in
+    let W = walk_of 𝓛 f.ended stayed c in
+    let 𝓣 = tables 𝓤 𝓛.H 𝓜 𝓡 𝓡.env in
+    proved_at 𝓛 f.ended stayed c 𝓜 𝓡
+    (Goes-blank 𝓛 1 (RefOf (0 ∷ []) tt (plain (λ _. A)) (λ _. tt)) yes (λ κs x w. tt), tt)
+    f.Key.name code.function (code.unfolded 𝓤 𝓛.H 𝓜 𝓡 wired) (λ y are.
+    let a = y.0.3 in
+    let vss = y.0.4 in
+    let s = a.0.now in
+    let left : A.Denot = record s { rows = [] } in
+    qed 𝓛 ((raw (alive 𝓛 f.signature y.0.0 y.0.1) ⊛ ‵ (owns (types_at f.signature.params y.0.0) a vss)) ∷ raw ((c y.0.0 a).requires y.1) ∷ []) ∵
+    keep ! (0 ∷ []) $ split ! $ move ! (1 ∷ []) $ fsplit ! $ fsplit ! $ feq_l ! (λ is. drop ! $ drop ! $
+    regoal ! (λ (us : List Val). prop (WpFn 𝓤 𝓛.H 𝓣.C 𝓣.Λ code.function (us ++ []) (W.post y))) is refl $
+    enter ! _ _ _ _ _ $ alloc_all ! (λ l. pass_all ! refl ((tt, tt), tt) $
+    sets ! (agg ! (no_more !)) refl (tt, tt) $
+    nothing ! $ area_made ! left $
+    returns ! (look_at ! 0 refl) $ free_all ! refl $
+    suffices ! _ (ends_at 𝓛 f.ended stayed c y none left (tt, tt) (tt, tt)) $ says ! refl $
+    nothing ! $ nothing ! $ fjoin ! $ move ! (2 ∷ 0 ∷ 1 ∷ []) $ done !)))

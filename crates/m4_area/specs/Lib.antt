@@ -1,0 +1,10 @@
+pub mod AreaLending
+pub mod Detached
+pub mod Lending
+pub mod OwnedLending
+pub mod Rectangle
+pub mod Rows
+pub mod Storage
+pub mod Strided
+pub mod Tied
+pub mod View

@@ -1,0 +1,10 @@
+-- What an owned rectangle holds once a row that it lent for writing is given back.
+use Rattle.std.specs.Prelude.{ℕ, List}
+use Rattle.std.specs.Borrow.{Array, Fml, Lends, MutBor, u64}
+use Rattle.m4_area.specs.Rectangle.{Rectangle}
+use Rattle.m4_area.specs.Lending.{row_left}
+use Rattle.m4_area.specs.contracts.owned.OwnedWords.{the_row}
+
+-- The rectangle ends with row r as it was left.
+abbrev pub LendsRow : MutBor Rectangle → ℕ → MutBor (List ℕ) → Fml
+LendsRow v r out = Lends the_row (Array u64 0) v out (row_left v.now r)

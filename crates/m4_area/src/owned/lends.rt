@@ -1,0 +1,21 @@
+//! A row of an owned rectangle, lent for writing.
+
+ghost use Rattle.std.specs.Prelude.{◌≡◌, ◌<◌, length};
+ghost use Rattle.std.specs.Borrow.{sem};
+ghost use Rattle.m4_area.specs.Rows.{row_of};
+ghost use Rattle.m4_area.specs.OwnedLending.{LendsRow};
+
+use super::OwnedWords;
+
+impl OwnedWords {
+    /// The words of row `r`, for writing. Every other row stays.
+    #[inline]
+    pub fn row_mut(&mut self, r: usize) -> &mut [u64]
+        requires { r < self.old.rows }
+        ensures* writes_back { sem 𝓛 (LendsRow self.entry r result) }
+        ensures words { result.now ≡ row_of self.old.words r }
+        ensures long { length result.now ≡ self.old.width }
+    {
+        self.words.row_mut(r)
+    }
+}
