@@ -1,0 +1,19 @@
+-- What exchanges are allowed, and when one order undoes another.
+use Rattle.std.specs.Prelude.{◌≡◌, ℕ, ◌^◌, ◌<◌, ◌≤◌, List, length, slice_index}
+use Rattle.m4_model.specs.Factors.{IsOrder}
+
+-- At most n exchanges, each of the entry of its number with one that isn't before it.
+pub record AreSwaps (n : ℕ) (exchanges : List ℕ) : Type 0 where
+  pub count : length exchanges ≤ n
+  pub behind : (i : ℕ) → i < length exchanges → i ≤ slice_index exchanges i
+  pub below : (i : ℕ) → i < length exchanges → slice_index exchanges i < n
+
+-- q has the place of each number of p.
+pub record IsInverseOrder (p q : List ℕ) : Type 0 where
+  pub count : length q ≡ length p
+  pub places : (i : ℕ) → i < length p → slice_index q (slice_index p i) ≡ i
+
+-- The numbers below some n, each once, where n is a number of 32 bits.
+pub record IsPermutation (p : List ℕ) : Type 0 where
+  pub order : IsOrder (length p) p
+  pub short : length p < 2 ^ 32
