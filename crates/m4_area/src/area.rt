@@ -34,6 +34,7 @@ unsafe impl Sync for Area {}
 
 impl Area {
     /// An area at the same place with no rows.
+    #[inline]
     pub(crate) fn emptied(&self) -> Area
         ensures { result ≡ record self.now { rows = [] } }
     {
@@ -41,6 +42,7 @@ impl Area {
     }
 
     /// Ends an area that has no rows.
+    #[inline]
     pub(crate) fn end(self)
         requires { self.rows ≡ [] }
     {
@@ -48,6 +50,7 @@ impl Area {
     }
 
     /// The first `r` rows, and the others.
+    #[inline]
     pub(crate) fn cut_rows(self, r: usize) -> (Area, Area)
         requires { r ≤ length self.rows }
         ensures above { result.0 ≡ record self { rows = take r self.rows } }
@@ -58,6 +61,7 @@ impl Area {
     }
 
     /// The rows, and those of `below`, which begin where these end.
+    #[inline]
     pub(crate) fn join_rows(self, below: Area) -> Area
         requires block { below.block ≡ self.block }
         requires step { below.step ≡ self.step }
@@ -70,6 +74,7 @@ impl Area {
     }
 
     /// The first `w` words of each row, and the others.
+    #[inline]
     pub(crate) fn cut_words(self, w: usize) -> (Area, Area)
         requires { All (λ row. w ≤ length row) self.rows }
         ensures left { result.0 ≡ record self { rows = map (take w) self.rows } }
@@ -80,6 +85,7 @@ impl Area {
     }
 
     /// Each row, of `w` words, and the row of `right` that begins where it ends.
+    #[inline]
     pub(crate) fn join_words(self, w: usize, right: Area) -> Area
         requires block { right.block ≡ self.block }
         requires step { right.step ≡ self.step }

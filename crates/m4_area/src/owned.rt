@@ -98,6 +98,7 @@ impl OwnedWords {
         ensures words { result.0 ≡ self.old }
         ensures storage { result.1 ≡ frame_of self.old }
         ensures left { self.new.rows ≡ 0 }
+        ensures left_width { self.new.width ≡ 0 }
     {
         let left = OwnedWords::none(self.alloc);
         replace(self, left).into_parts()

@@ -6,6 +6,7 @@ ghost use Rattle.m4_area.specs.Storage.{frame_of};
 
 use super::*;
 use std::test::Fail;
+use std::thread::{Threads, join_mut};
 
 // Writes a word all over a row.
 #[tactic(auto, using(crate::proofs::RowLemmas::refill_same))]
@@ -67,7 +68,17 @@ fn halve(m: &mut Words, depth: u64)
     m.put(above.join_rows(below));
 }
 
-// Both halves are written by threads of their own, where that is allowed.
+// Writes the halves of a rectangle by threads of their own.
+fn fill_halves<R: Threads>(rt: &R, m: &mut Words)
+    ensures frame { frame_of m.new ≡ frame_of m.old }
+{
+    let rows = m.rows();
+    let (mut above, mut below) = m.take().split_rows(rows / 2);
+    join_mut(rt, &mut || fill(&mut above, 7), &mut || fill(&mut below, 8));
+    m.put(above.join_rows(below));
+}
+
+// An owner, and a reference to it, may go to another thread.
 fn crosses<T: Send + Sync>(_: &T) {}
 
 #[test]
@@ -81,5 +92,11 @@ fn quarters_are_joined(rt: HostRuntime) -> Result<(), Fail> {
     assert_eq!(rt; owned.words().rows(), 3);
     assert_eq!(rt; owned.words().row(0), [1, 1, 1, 2].as_slice());
     assert_eq!(rt; owned.words().row(2), [3, 3, 3, 4].as_slice());
+    let (mut words, storage) = owned.take();
+    fill_halves(&rt, &mut words);
+    owned.put(words, storage);
+    assert_eq!(rt; owned.words().rows(), 3);
+    assert_eq!(rt; owned.words().row(0), [7; 4].as_slice());
+    assert_eq!(rt; owned.words().row(1), [8; 4].as_slice());
     Ok(())
 }

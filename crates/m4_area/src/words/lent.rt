@@ -26,6 +26,7 @@ impl Words {
     }
 
     /// A rectangle at the same place with no rows.
+    #[inline]
     fn emptied(&self) -> Words
         ensures { result ≡ record self.now { rows = 0; words = [] } }
     {
@@ -40,6 +41,7 @@ impl Words {
     }
 
     /// Ends a rectangle that has no rows.
+    #[inline]
     pub fn end(self)
         requires { self.rows ≡ 0 }
     {
