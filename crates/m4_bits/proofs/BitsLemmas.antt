@@ -1,8 +1,11 @@
 -- The bits of a written word, of a sum of rows and of a masked row.
-use Rattle.std.proofs.Common.{eqb, ◌≡◌, ◌≢◌, ℕ, zero, suc, ◌+◌, ◌-◌, ◌/◌, ◌%◌, ◌^◌, ◌<◌, ◌≤◌, inl, inr, List, [], ◌∷◌, length, get_or, set, refl, sym, ◌∙◌, ap, arith, bit_xor, bit_and}
+use Rattle.std.proofs.Common.{eqb, ◌==◌, if◌then◌else◌, ◌≡◌, ◌≢◌, ℕ, zero, suc, ◌+◌, ◌-◌, ◌*◌, ◌/◌, ◌%◌, ◌^◌, ◌<◌, ◌≤◌, inl, inr, List, [], ◌∷◌, length, get_or, set, refl, sym, ◌∙◌, ap, arith, bit_xor, bit_and}
 use Rattle.std.specs.Int.{bit_at}
 use Rattle.std.proofs.lemmas.Nat.{xor_shr, xor_mod}
-use Rattle.std.proofs.lemmas.Nat.Bits.{bit_at_and, bit_at_ones, bit_at_ones_above, bit_at-lt, bit_at-zero}
+use Rattle.std.proofs.lemmas.Nat.Bits.{bit_at_and, bit_at_ones, bit_at_ones_above, bit_at-lt, bit_at-zero, bit_at-pow_same, bit_at-pow_other}
+use Rattle.std.specs.Int.Bits.{xor_zero_r}
+use Rattle.std.proofs.Math.Pow.{pow-lt}
+use Rattle.std.proofs.Math.Nat.{mod-eq_of_lt}
 use Rattle.std.proofs.lemmas.List.{length-set, get_or-set_same, get_or-set_other, get_or_past, ext_get_or}
 use Rattle.std.proofs.lemmas.Bool.{cases_eq, cases_lt, cond_both, eqb-true, eqb-false}
 use Rattle.m4_model.specs.Matrix.{row_sum}
@@ -98,6 +101,47 @@ bit-masked_past words cols j long past =
           (bit_at-mask_past _ (last_bits cols) (j % 64) (rw (last_bits-is cols) (omega (arith, last)))))
       | inr outside ↦ bit_past (masked words (2 ^ last_bits cols - 1)) j (rw (length-masked words (2 ^ last_bits cols - 1)) outside)
     ]
+
+-- a bit of the columns of a masked row added to a row
+pub bit-sum_masked_below : (row src : List ℕ) (cols j : ℕ) → length row ≡ length src → length src ≡ words_per_row cols → j < cols
+    → bit (row_sum row (masked src (2 ^ last_bits cols - 1))) j ≡ bit_xor (bit row j) (bit src j)
+bit-sum_masked_below row src cols j same long below =
+    let mask = 2 ^ last_bits cols - 1 in
+    bit-row_sum row (masked src mask) j (same ∙ sym (length-masked src mask))
+    ∙ ap (λ b. bit_xor (bit row j) b) (bit-masked_below src cols j long below)
+
+-- a bit past the columns stays where a masked row is added
+pub bit-sum_masked_past : (row src : List ℕ) (cols j : ℕ) → length row ≡ length src → length src ≡ words_per_row cols → cols ≤ j
+    → bit (row_sum row (masked src (2 ^ last_bits cols - 1))) j ≡ bit row j
+bit-sum_masked_past row src cols j same long past =
+    let mask = 2 ^ last_bits cols - 1 in
+    bit-row_sum row (masked src mask) j (same ∙ sym (length-masked src mask))
+    ∙ (ap (λ b. bit_xor (bit row j) b) (bit-masked_past src cols j long past) ∙ xor_zero_r (bit row j))
+
+-- 0 or 1 at its place in a word
+placed-is : (change s : ℕ) → change < 2 → s < 64 → change * 2 ^ s % 2 ^ 64 ≡ (if change == 0 then 0 else 2 ^ s)
+placed-is zero s small within = omega arith
+placed-is (suc zero) s small within = ap (λ w. w % 2 ^ 64) (omega arith) ∙ mod-eq_of_lt (pow-lt within)
+placed-is (suc (suc more)) s small within = absurd (omega (arith, small))
+
+-- 0 or 1 added to a bit of a word: that bit
+pub bit_at-added_same : (w change s : ℕ) → change < 2 → s < 64 → bit_at (bit_xor w (change * 2 ^ s % 2 ^ 64)) s ≡ bit_xor (bit_at w s) change
+bit_at-added_same w zero s small within =
+    bit_at-xor w (0 * 2 ^ s % 2 ^ 64) s ∙ ap (λ b. bit_xor (bit_at w s) b) (ap (λ v. bit_at v s) (placed-is 0 s small within) ∙ bit_at-zero s)
+bit_at-added_same w (suc zero) s small within =
+    bit_at-xor w (1 * 2 ^ s % 2 ^ 64) s
+    ∙ ap (λ b. bit_xor (bit_at w s) b) (ap (λ v. bit_at v s) (placed-is 1 s small within) ∙ bit_at-pow_same s)
+bit_at-added_same w (suc (suc more)) s small within = absurd (omega (arith, small))
+
+-- 0 or 1 added to a bit of a word: every other bit
+pub bit_at-added_other : (w change s i : ℕ) → change < 2 → s < 64 → i ≢ s → bit_at (bit_xor w (change * 2 ^ s % 2 ^ 64)) i ≡ bit_at w i
+bit_at-added_other w zero s i small within other =
+    bit_at-xor w (0 * 2 ^ s % 2 ^ 64) i
+    ∙ (ap (λ b. bit_xor (bit_at w i) b) (ap (λ v. bit_at v i) (placed-is 0 s small within) ∙ bit_at-zero i) ∙ xor_zero_r (bit_at w i))
+bit_at-added_other w (suc zero) s i small within other =
+    bit_at-xor w (1 * 2 ^ s % 2 ^ 64) i
+    ∙ (ap (λ b. bit_xor (bit_at w i) b) (ap (λ v. bit_at v i) (placed-is 1 s small within) ∙ bit_at-pow_other s i other) ∙ xor_zero_r (bit_at w i))
+bit_at-added_other w (suc (suc more)) s i small within other = absurd (omega (arith, small))
 
 -- a sum of rows word by word, the last one under the mask
 pub added_masked : (old now src : List ℕ) (last end : ℕ) → end + 1 ≡ length old → length now ≡ length old → length old ≡ length src

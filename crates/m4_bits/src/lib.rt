@@ -4,10 +4,18 @@
 //! none refuses: what a call needs of its slices is in its `requires`.
 #![tactic(auto)]
 
-ghost use Rattle.std.specs.Prelude.{◌≡◌, ◌≢◌, ◌↔◌, ℕ, ◌-◌, ◌/◌, ◌^◌, ◌<◌, length, IsTrue, if◌then◌else◌};
+ghost use Rattle.std.specs.Prelude.{◌≡◌, ◌≢◌, ◌↔◌, ℕ, ◌-◌, ◌/◌, ◌^◌, ◌<◌, ◌≤◌, length, bit_xor, IsTrue, if◌then◌else◌};
 ghost use Rattle.m4_model.specs.Matrix.{row_sum};
 ghost use Rattle.m4_model.specs.Text.{words_per_row};
 ghost use Rattle.m4_bits.specs.Bits.{bit, last_bits, masked};
+
+mod digits;
+mod rows;
+mod transpose;
+
+pub use digits::{put_digits, word_of_digits};
+pub use rows::{clear, copy_into, swap_into, xor_from_column, xor_from2, xor_from4, xor_from8};
+pub use transpose::transpose_64;
 
 /// How many words a row of `cols` columns takes.
 pub fn words_for(cols: u32) -> u32
@@ -51,6 +59,36 @@ pub fn put_bit(row: &mut [u64], j: u32, bit_value: bool)
     }
 }
 
+/// Exchanges bits `i` and `j` of the row. Every other bit stays.
+pub fn swap_bits(row: &mut [u64], i: u32, j: u32)
+    requires { (i / 64 < length row.old) × (j / 64 < length row.old) }
+    ensures first { bit row.new i ≡ bit row.old j }
+    ensures second { bit row.new j ≡ bit row.old i }
+    ensures others { (k : ℕ) → k ≢ i → k ≢ j → bit row.new k ≡ bit row.old k }
+{
+    let change = bit_of(row, i) ^ bit_of(row, j);
+    add_bit(row, i, change);
+    add_bit(row, j, change);
+}
+
+/// Bit `j` of the row, as a number.
+fn bit_of(row: &[u64], j: u32) -> u64
+    requires { j / 64 < length row.now }
+    ensures { result ≡ bit row.now j }
+{
+    (row[(j / 64) as usize] >> (j % 64)) & 1
+}
+
+/// Adds 0 or 1 to bit `j` of the row. Every other bit stays.
+fn add_bit(row: &mut [u64], j: u32, change: u64)
+    requires within { j / 64 < length row.old }
+    requires change { change < 2 }
+    ensures value { bit row.new j ≡ bit_xor (bit row.old j) change }
+    ensures others { (k : ℕ) → k ≢ j → bit row.new k ≡ bit row.old k }
+{
+    row[(j / 64) as usize] ^= change << (j % 64);
+}
+
 /// Adds the row `src` to the row `dst` of as many words, in one pass. Of the last word of `src` only the bits of `last`
 /// are added, so that with `last = mask(cols)` the bits past the last column stay as they were.
 pub fn xor_into(dst: &mut [u64], src: &[u64], last: u64)
@@ -69,7 +107,20 @@ pub fn xor_into(dst: &mut [u64], src: &[u64], last: u64)
 
 #[cfg(test)]
 mod tests {
-    use super::{get_bit, mask, put_bit, words_for, xor_into};
+    use super::{
+        clear, copy_into, get_bit, mask, put_bit, swap_bits, swap_into, words_for, xor_from_column,
+        xor_from2, xor_from4, xor_from8, xor_into,
+    };
+    use std::process::Abort;
+
+    /// A row whose word `k` is `k + 1`, at the place of `unit`.
+    fn counted(unit: u64) -> [u64; 17] {
+        let mut row = [0; 17];
+        for k in 0..17 {
+            row[k] = (k as u64 + 1).wrapping_mul(unit);
+        }
+        row
+    }
 
     #[test]
     fn words_and_masks_at_borders(rt: HostRuntime) {
@@ -105,5 +156,123 @@ mod tests {
         assert_eq!(rt; sum[0], 4);
         assert_eq!(rt; sum[1], 4);
         assert_eq!(rt; sum[2], 11);
+    }
+
+    #[test]
+    fn two_bits_are_exchanged(rt: HostRuntime) {
+        let mut row: [u64; 2] = [1 << 63, 0];
+        swap_bits(&mut row, 63, 65);
+        assert_eq!(rt; row, [0, 2]);
+        swap_bits(&mut row, 65, 64);
+        assert_eq!(rt; row, [0, 1]);
+        swap_bits(&mut row, 64, 64);
+        assert_eq!(rt; row, [0, 1]);
+    }
+
+    /// Rows of `n` words hold small numbers side by side, which one sum collects: row `t` at bit `7 t`.
+    fn rows_are_added<R: Abort>(rt: &R, n: usize)
+        requires { n ≤ 17 }
+    {
+        let (mut one, mut two) = (counted(1), counted(1));
+        let (mut four, mut eight) = (counted(1), counted(1));
+        let (a, b, c, d) = (
+            counted(1 << 7),
+            counted(1 << 14),
+            counted(1 << 21),
+            counted(1 << 28),
+        );
+        let (e, f, g, h) = (
+            counted(1 << 35),
+            counted(1 << 42),
+            counted(1 << 49),
+            counted(1 << 56),
+        );
+        let last = mask(14);
+        xor_into(&mut one[..n], &a[..n], last);
+        xor_from2(&mut two[..n], &a[..n], &b[..n], last);
+        xor_from4(&mut four[..n], &a[..n], &b[..n], &c[..n], &d[..n], last);
+        xor_from8(
+            &mut eight[..n],
+            &a[..n],
+            &b[..n],
+            &c[..n],
+            &d[..n],
+            &e[..n],
+            &f[..n],
+            &g[..n],
+            &h[..n],
+            last,
+        );
+        for k in 0..17 {
+            let word = k as u64 + 1;
+            let (of_one, of_two, of_four, of_eight) = if k + 1 < n {
+                (0x81, 0x4081, 0x10204081, 0x0102040810204081)
+            } else if k + 1 == n {
+                (0x81, 0x81, 0x81, 0x81)
+            } else {
+                (1, 1, 1, 1)
+            };
+            assert_eq!(rt; one[k], word.wrapping_mul(of_one));
+            assert_eq!(rt; two[k], word.wrapping_mul(of_two));
+            assert_eq!(rt; four[k], word.wrapping_mul(of_four));
+            assert_eq!(rt; eight[k], word.wrapping_mul(of_eight));
+        }
+    }
+
+    /// Rows of `n` words are copied, exchanged, cleared and added from column 70 on, with 4 bits of the last word.
+    fn rows_are_moved<R: Abort>(rt: &R, n: usize)
+        requires { n ≤ 17 }
+    {
+        let ones = [u64::MAX; 17];
+        let (mut copied, mut cleared, mut added) = ([0; 17], ones, ones);
+        let (mut first, mut second) = ([0; 17], ones);
+        let last = 15;
+        copy_into(&mut copied[..n], &ones[..n], last);
+        swap_into(&mut first[..n], &mut second[..n], last);
+        clear(&mut cleared[..n], last);
+        xor_from_column(&mut added[..n], &ones[..n], 70, last << 4);
+        for k in 0..17 {
+            let taken = if k + 1 < n {
+                u64::MAX
+            } else if k + 1 == n {
+                15
+            } else {
+                0
+            };
+            let from = if k == 0 || k >= n {
+                0
+            } else if k + 1 == n {
+                if k == 1 { 0xc0 } else { 0xf0 }
+            } else if k == 1 {
+                !0x3f
+            } else {
+                u64::MAX
+            };
+            assert_eq!(rt; copied[k], taken);
+            assert_eq!(rt; cleared[k], !taken);
+            assert_eq!(rt; first[k], taken);
+            assert_eq!(rt; second[k], !taken);
+            assert_eq!(rt; added[k], !from);
+        }
+    }
+
+    #[test]
+    fn rows_of_each_length(rt: HostRuntime) {
+        rows_are_added(&rt, 0);
+        rows_are_added(&rt, 1);
+        rows_are_added(&rt, 2);
+        rows_are_added(&rt, 3);
+        rows_are_added(&rt, 7);
+        rows_are_added(&rt, 8);
+        rows_are_added(&rt, 9);
+        rows_are_added(&rt, 17);
+        rows_are_moved(&rt, 0);
+        rows_are_moved(&rt, 1);
+        rows_are_moved(&rt, 2);
+        rows_are_moved(&rt, 3);
+        rows_are_moved(&rt, 7);
+        rows_are_moved(&rt, 8);
+        rows_are_moved(&rt, 9);
+        rows_are_moved(&rt, 17);
     }
 }

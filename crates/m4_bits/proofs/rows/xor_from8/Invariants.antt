@@ -1,0 +1,6 @@
+use Rattle.std.proofs.Common.{◌*◌, [], ◌∷◌}
+use Rattle.m4_bits.proofs.SumLemmas.{Added}
+use Rattle.m4_bits.proofs.rows.xor_from8.Given as goal
+
+abbrev pub invariant-loop-pair : goal.invariant-loop-pair
+invariant-loop-pair l = Added l.fn.dst l.dst (l.a ∷ l.b ∷ l.c ∷ l.d ∷ l.e ∷ l.f ∷ l.g ∷ l.h ∷ []) (l.pair * 2)
