@@ -1,1 +1,9 @@
-pub mod Stored
+pub mod Around
+pub mod Held
+pub mod Quarters
+pub mod Rectangles
+pub mod Reach
+pub mod Rows
+pub mod Seen
+pub mod Shown
+pub mod Window

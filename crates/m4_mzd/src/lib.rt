@@ -1,7 +1,18 @@
-//! The matrix over GF(2) of the word engines: it owns its words, and contracts see a `Matrix`.
+//! The matrix over GF(2) of the word engines, which owns its words, windows on it, and the trait of engines. Contracts
+//! see a `Matrix`.
 #![tactic(auto)]
 
+mod add_mul;
 mod mzd;
-mod rows;
+mod rect;
+#[cfg(test)]
+mod tests;
+mod win;
+mod win_mut;
+mod word;
 
-pub use mzd::Mzd;
+pub use add_mul::{AddMul, Shape};
+pub use mzd::{Around, Home, Mzd};
+pub use rect::{Rect, RectFault};
+pub use win::Win;
+pub use win_mut::WinMut;

@@ -1,32 +1,43 @@
+//! A matrix that owns its words.
+
 ghost use Rattle.std.specs.Prelude.{◌≡◌, ◌↔◌, ◌^◌, ◌<◌, ◌≤◌, IfOk, IsTrue, if◌then◌else◌};
 ghost use Rattle.m4_model.specs.Field.{gf2};
-ghost use Rattle.m4_model.specs.Matrix.{IsMatrix, at, row, row_sum, with_entry, with_row, zero_matrix};
+ghost use Rattle.m4_model.specs.Matrix.{IsMatrix, at, identity, row, row_sum, with_entry, with_row, zero_matrix};
+ghost use Rattle.m4_model.specs.Text.{words_per_row};
+ghost use Rattle.m4_mzd.specs.Shown.{window};
+ghost use Rattle.m4_mzd.specs.Held.{held, IsPadded};
 
-use crate::rows::{add_to_row, put_in_row, row_of};
-use m4_bits::{get_bit, mask, words_for};
+use m4_area::OwnedWords;
+use m4_bits::{get_bit, mask, put_bit, words_for, xor_into};
 use m4_model::NoMemory;
 use std::alloc::Global;
 use std::marker::Model;
 
+mod around;
+mod rects;
+mod windows;
+
+pub use around::Around;
+pub use windows::Home;
+
 /// A matrix over GF(2) of at most 2^24 rows and 2^24 columns, which owns its words.
 ///
 /// Row after row, each row takes `words_for(cols)` words of 64 bits. Bits past the last column are zero.
-#[derive(Debug, Drop)]
+#[derive(Drop)]
 pub struct Mzd {
-    words: Vec<u64>,
-    rows: u32,
+    words: OwnedWords,
     cols: u32,
 }
 
 impl Model for Mzd {
     ghost use Rattle.m4_model.specs.Matrix.{Matrix};
-    ghost use Rattle.m4_mzd.specs.Stored.{held, IsStored};
+    ghost use Rattle.m4_mzd.specs.Held.{held, IsHeld};
 
     ghost Value = { Matrix };
 
-    ghost view = { λ m. held m.rows m.cols m.words.items };
+    ghost view = { λ m. held m.words m.cols };
 
-    ghost invariant = { λ m. IsStored m.rows m.cols m.words.items };
+    ghost invariant = { λ m. IsHeld m.words m.cols };
 }
 
 impl Mzd {
@@ -36,8 +47,52 @@ impl Mzd {
         requires few_cols { cols ≤ 2 ^ 24 }
         ensures { IfOk result (λ m. m ≡ zero_matrix gf2 rows cols) }
     {
-        let words = vec![in alloc; 0u64; rows as usize * words_for(cols) as usize]?;
-        Ok(Mzd { words, rows, cols })
+        let width = words_for(cols) as usize;
+        let words = vec![in alloc; 0u64; rows as usize * width]?;
+        Ok(Mzd::of(OwnedWords::from_vec(words, rows as usize, width), cols))
+    }
+
+    /// The matrix with ones on its diagonal and zeros elsewhere.
+    pub fn identity(alloc: Global, n: u32) -> Result<Mzd, NoMemory>
+        requires { n ≤ 2 ^ 24 }
+        ensures { IfOk result (λ m. m ≡ identity gf2 n) }
+    {
+        let mut m = Mzd::zeros(alloc, n, n)?;
+        m.set_diagonal();
+        Ok(m)
+    }
+
+    // Makes the entries on the diagonal of a square matrix of zeros 1.
+    fn set_diagonal(&mut self)
+        requires { self.old ≡ zero_matrix gf2 self.old.rows self.old.rows }
+        ensures { self.new ≡ identity gf2 self.old.rows }
+    {
+        for i in 0..self.rows() {
+            self.put(i, i, true);
+        }
+    }
+
+    /// The matrix once more, in memory of its own.
+    pub fn copy(&self, alloc: Global) -> Result<Mzd, NoMemory>
+        ensures { IfOk result (λ m. m ≡ self.now) }
+    {
+        let mut m = Mzd::zeros(alloc, self.rows(), self.cols())?;
+        let (mut whole, home) = m.all_mut();
+        whole.copy_rows(&self.all());
+        m.put_all(whole, home);
+        Ok(m)
+    }
+
+    /// The matrix in a whole rectangle of words, whose bits past the last column are 0.
+    pub(crate) fn of(words: OwnedWords, cols: u32) -> Mzd
+        requires wide { words.width ≡ words_per_row cols }
+        requires few_rows { words.rows ≤ 2 ^ 24 }
+        requires few_cols { cols ≤ 2 ^ 24 }
+        requires padded { IsPadded (window words cols) }
+        ensures { result ≡ held words cols }
+    {
+        let _rows = words.words().rows();
+        Mzd { words, cols }
     }
 
     /// How many rows the matrix has. It is a matrix over GF(2) of at most 2^24 rows and 2^24 columns.
@@ -48,7 +103,7 @@ impl Mzd {
         ensures few_rows { self.now.rows ≤ 2 ^ 24 }
         ensures few_cols { self.now.cols ≤ 2 ^ 24 }
     {
-        self.rows
+        self.words.words().rows() as u32
     }
 
     /// How many columns the matrix has. It is a matrix over GF(2) of at most 2^24 rows and 2^24 columns.
@@ -69,8 +124,7 @@ impl Mzd {
         ensures one { IsTrue result ↔ (at self.now r c ≡ 1) }
         ensures value { at self.now r c ≡ (if result then 1 else 0) }
     {
-        let width = words_for(self.cols) as usize;
-        get_bit(row_of(&self.words, width, r as usize), c)
+        get_bit(self.words.words().row(r as usize), c)
     }
 
     /// Writes the entry in row `r` and column `c`: 1 for `true`, 0 for `false`. Every other entry stays.
@@ -79,8 +133,7 @@ impl Mzd {
         requires in_cols { c < self.old.cols }
         ensures { self.new ≡ with_entry self.old r c (if bit then 1 else 0) }
     {
-        let width = words_for(self.cols) as usize;
-        put_in_row(&mut self.words, width, r as usize, c, bit);
+        put_bit(self.words.row_mut(r as usize), c, bit);
     }
 
     /// Adds row `s` of `from`, a matrix of as many columns, to row `r`. Every other row stays.
@@ -90,10 +143,9 @@ impl Mzd {
         requires same_cols { self.old.cols ≡ from.now.cols }
         ensures { self.new ≡ with_row self.old r (row_sum (row self.old r) (row from.now s)) }
     {
-        let width = words_for(self.cols) as usize;
         let last = mask(self.cols);
-        let src = row_of(&from.words, width, s as usize);
-        add_to_row(&mut self.words, width, r as usize, src, last);
+        let source = from.words.words().row(s as usize);
+        xor_into(self.words.row_mut(r as usize), source, last);
     }
 }
 

@@ -1,30 +1,29 @@
-use Rattle.std.proofs.Common.{length, sym, ◌∙◌, ap, subst}
-use Rattle.std.proofs.lemmas.List.{with_items_is}
-use Rattle.m4_mzd.specs.Stored.{held, IsStored}
-use Rattle.m4_mzd.proofs.StoredLemmas.{held_after_add, IsStored-add, long_row}
+use Rattle.std.proofs.Common.{◌≡◌, sym, ap, ◌∙◌}
+use Rattle.m4_model.specs.Matrix.{Matrix}
+use Rattle.m4_area.specs.Rectangle.{Rectangle}
+use Rattle.m4_area.specs.Rows.{row_of}
+use Rattle.m4_mzd.proofs.WriteLemmas.{holds_at, wrote_sum}
+use Rattle.m4_mzd.proofs.HeldLemmas.{holds_held, held_written, IsHeld_written}
 use Rattle.m4_mzd.proofs.mzd.Mzd.add_row.Goals as goal
 
 pub invariant_of-self : goal.invariant_of-self
 invariant_of-self c =
-    let now = c.add_to_row.new.words in
-    let items = with_items_is c.self.inside.words now (c.add_to_row.ensures.long ∙ c.deref_mut.ensures.len) in
-    subst (IsStored c.self.inside.rows c.self.inside.cols) (sym items)
-    (IsStored-add c.self.inside.rows c.self.inside.cols c.self.inside.words.items now c.row_of-src.result.now _ c.args.r c.mask-last.result c.self.invariant
-    (c.add_to_row.ensures.long ∙ ap length c.deref_mut.ensures.value) (sym c.words_for-width.ensures)
-    (long_row c.self.inside.rows c.self.inside.cols c.self.inside.words.items _ c.args.r c.args.self.now c.self.invariant c.self.view_is (sym c.words_for-width.ensures) c.requires.in_rows)
-    c.row_of-src.ensures.long c.mask-last.ensures
-    (rw c.deref_mut.ensures.value at c.add_to_row.ensures.sum)
-    (rw c.deref_mut.ensures.value at c.add_to_row.ensures.other_rows))
+    let v = c.self.inside.words in
+    let cols = c.self.inside.cols in
+    let mine = holds_held v cols c.args.r c.row_mut.result.now c.args.self.now c.self.view_is c.self.invariant c.requires.in_rows c.row_mut.ensures.words in
+    let source = c.row-source.ensures.words ∙ ap (λ (u : Rectangle). row_of u.words c.args.s) c.words.ensures in
+    let same : c.from.inside.cols ≡ cols = ap (λ (A : Matrix). A.cols) c.from.view_is ∙ sym (ap (λ (A : Matrix). A.cols) c.self.view_is ∙ c.requires.same_cols) in
+    let theirs = holds_at c.from.inside.cols cols _ _ same (holds_held c.from.inside.words c.from.inside.cols c.args.s c.row-source.result.now c.args.from.now c.from.view_is c.from.invariant c.requires.in_from source) in
+    IsHeld_written c.self.inside.words c.self.inside.cols c.args.r c.row_mut.result.now c.xor_into.new.dst _ c.args.self.now c.self.view_is c.self.invariant c.requires.in_rows
+    c.row_mut.ensures.words (wrote_sum cols c.mask-last.result c.row_mut.result.now c.row-source.result.now c.xor_into.new.dst _ _ c.mask-last.ensures c.xor_into.ensures mine theirs)
 
 pub returns : goal.returns
 returns c =
-    let now = c.add_to_row.new.words in
-    let items = with_items_is c.self.inside.words now (c.add_to_row.ensures.long ∙ c.deref_mut.ensures.len) in
-    ap (held c.self.inside.rows c.self.inside.cols) items
-    ∙ held_after_add c.self.inside.rows c.self.inside.cols c.from.inside.rows c.from.inside.cols c.self.inside.words.items now c.from.inside.words.items
-    c.row_of-src.result.now _ c.args.r c.args.s c.mask-last.result c.args.self.now c.args.from.now c.self.view_is c.from.view_is
-    (sym c.words_for-width.ensures) c.requires.in_rows c.requires.in_from c.requires.same_cols
-    (long_row c.self.inside.rows c.self.inside.cols c.self.inside.words.items _ c.args.r c.args.self.now c.self.invariant c.self.view_is (sym c.words_for-width.ensures) c.requires.in_rows)
-    c.row_of-src.ensures.long (rw c.deref.ensures.value at c.row_of-src.ensures.words) c.mask-last.ensures
-    (rw c.deref_mut.ensures.value at c.add_to_row.ensures.sum)
-    (rw c.deref_mut.ensures.value at c.add_to_row.ensures.other_rows)
+    let v = c.self.inside.words in
+    let cols = c.self.inside.cols in
+    let mine = holds_held v cols c.args.r c.row_mut.result.now c.args.self.now c.self.view_is c.self.invariant c.requires.in_rows c.row_mut.ensures.words in
+    let source = c.row-source.ensures.words ∙ ap (λ (u : Rectangle). row_of u.words c.args.s) c.words.ensures in
+    let same : c.from.inside.cols ≡ cols = ap (λ (A : Matrix). A.cols) c.from.view_is ∙ sym (ap (λ (A : Matrix). A.cols) c.self.view_is ∙ c.requires.same_cols) in
+    let theirs = holds_at c.from.inside.cols cols _ _ same (holds_held c.from.inside.words c.from.inside.cols c.args.s c.row-source.result.now c.args.from.now c.from.view_is c.from.invariant c.requires.in_from source) in
+    held_written c.self.inside.words c.self.inside.cols c.args.r c.row_mut.result.now c.xor_into.new.dst _ c.args.self.now c.self.view_is c.self.invariant c.requires.in_rows
+    c.row_mut.ensures.words (wrote_sum cols c.mask-last.result c.row_mut.result.now c.row-source.result.now c.xor_into.new.dst _ _ c.mask-last.ensures c.xor_into.ensures mine theirs)

@@ -1,7 +1,5 @@
-use Rattle.std.proofs.Common.{subst}
-use Rattle.m4_model.specs.Matrix.{IsMatrix}
-use Rattle.m4_mzd.proofs.StoredLemmas.{IsMatrix-held}
+use Rattle.m4_mzd.proofs.HeldLemmas.{IsMatrix_held}
 use Rattle.m4_mzd.proofs.mzd.Mzd.cols.Goals as goal
 
 pub returns-clause-matrix : goal.returns-clause-matrix
-returns-clause-matrix c = subst IsMatrix c.self.view_is (IsMatrix-held _ _ _)
+returns-clause-matrix c = IsMatrix_held c.self.inside.words c.self.inside.cols c.args.self.now c.self.view_is c.self.invariant

@@ -1,0 +1,194 @@
+-- A row of a window that is written in whole words: the entries that it holds then, and what the window is.
+use Rattle.std.proofs.Common.{◌≡◌, ◌≢◌, ℕ, inl, inr, ◌+◌, ◌-◌, ◌^◌, ◌<◌, ◌≤◌, List, [], length, get_or, set, take, drop, map, replicate, refl, sym, ◌∙◌, ap, subst, arith, bit_xor}
+use Rattle.std.proofs.lemmas.Bool.{cases_eq, cases_lt}
+use Rattle.std.proofs.lemmas.List.{length-set, length-append, length-take-le, length-drop, length-replicate, get_or-set_same, get_or-set_other, get_or_append_left, get_or-append_right, get_or-take, get_or-drop, get_or-replicate, map-set, set-get_or}
+use Rattle.m4_model.specs.Matrix.{row, row_sum}
+use Rattle.m4_model.specs.Text.{words_per_row}
+use Rattle.m4_bits.specs.Bits.{bit, last_bits, masked, overlaid}
+use Rattle.m4_bits.proofs.BitsLemmas.{length-row_sum, get_or-row_sum, bit-sum_masked_below, bit-sum_masked_past}
+use Rattle.m4_bits.proofs.OverlaidLemmas.{length-overlaid, bit-overlaid_below, bit-overlaid_past, bit-cleared_below, bit-cleared_past}
+use Rattle.m4_area.specs.Rectangle.{Rectangle}
+use Rattle.m4_area.specs.Rows.{row_of, with_row, refill}
+use Rattle.m4_area.specs.View.{seen}
+use Rattle.m4_area.proofs.RowLemmas.{refill_same}
+use Rattle.m4_area.proofs.ShapeLemmas.{row_width}
+use Rattle.m4_mzd.specs.Window.{Window}
+use Rattle.m4_mzd.specs.Shown.{window, bits_within, bits_past, IsFramed}
+use Rattle.m4_mzd.specs.Seen.{shown, shown_rows}
+use Rattle.m4_mzd.specs.Rows.{sum_from}
+use Rattle.m4_mzd.specs.declared.win.Win.{Win}
+use Rattle.m4_mzd.proofs.BitRows.{get_or-bits_within, within_written, past_kept}
+use Rattle.m4_mzd.proofs.WindowLemmas.{same_window, row_of_bits, length-row_of_bits}
+use Rattle.m4_mzd.proofs.SeenLemmas.{words_seen, framed_seen}
+
+-- a row of words, and the entries of so many columns that stand in it
+pub record Holds (cols : ℕ) (words entries : List ℕ) : Type 0 where
+  pub long : length words ≡ words_per_row cols
+  pub entries_long : length entries ≡ cols
+  pub bits : (j : ℕ) → j < cols → get_or entries j 0 ≡ bit words j
+
+-- a row of words was written: it holds these entries, and past its columns what it held
+pub record Wrote (cols : ℕ) (old new entries : List ℕ) : Type 0 where
+  pub holds : Holds cols new entries
+  pub kept : (j : ℕ) → cols ≤ j → bit new j ≡ bit old j
+
+holds_row : (v : Rectangle) (cols r : ℕ) → IsFramed v cols → r < v.rows → Holds cols (row_of v.words r) (get_or (window v cols).bits r [])
+holds_row v cols r f below = record {
+  long = row_width v r f.shape below ∙ f.wide;
+  entries_long = length-row_of_bits v cols r f below;
+  bits = λ j within. ap (λ row. get_or row j 0) (row_of_bits v cols r f below) ∙ get_or-bits_within cols (row_of v.words r) j within;
+}
+
+-- a row of a window for writing
+pub holds_own : (v : Rectangle) (cols r : ℕ) (old : List ℕ) (w : Window) → window v cols ≡ w → IsFramed v cols → r < w.rows → old ≡ row_of v.words r
+    → Holds cols old (get_or w.bits r [])
+holds_own v cols r old w is f =
+    let P : Window → Type 0 = λ x. r < x.rows → old ≡ row_of v.words r → Holds cols old (get_or x.bits r []) in
+    subst P is (λ below was. subst (λ l. Holds cols l (get_or (window v cols).bits r [])) (sym was) (holds_row v cols r f below))
+
+-- a row of a window for reading
+holds_shown : (x : Win) (s : ℕ) → s < x.view.rows → Holds x.cols (row_of (seen x.view) s) (row (shown x) s)
+unfolding shown_rows
+holds_shown x s below = holds_row (words_seen x) x.cols s (framed_seen x) below
+
+pub holds_seen : (x : Win) (cols s : ℕ) (source : List ℕ) (w : Window) (v : Rectangle) → window v cols ≡ w → s < x.view.rows → x.cols ≡ w.cols → source ≡ row_of (seen x.view) s
+    → Holds cols source (row (shown x) s)
+holds_seen x cols s source w v is below same was =
+    let cols_same : x.cols ≡ cols = same ∙ sym (ap (λ (y : Window). y.cols) is) in
+    subst (λ n. Holds n source (row (shown x) s)) cols_same (subst (λ l. Holds x.cols l (row (shown x) s)) (sym was) (holds_shown x s below))
+
+-- the same of equal numbers of columns
+pub holds_at : (m n : ℕ) (words entries : List ℕ) → m ≡ n → Holds m words entries → Holds n words entries
+holds_at m n words entries same h = subst (λ k. Holds k words entries) same h
+
+-- the columns of two windows of as many
+pub same_columns : (v u : Rectangle) (m n : ℕ) (w x : Window) → window v m ≡ w → window u n ≡ x → x.cols ≡ w.cols → n ≡ m
+same_columns v u m n w x is other same = ap (λ (y : Window). y.cols) other ∙ same ∙ sym (ap (λ (y : Window). y.cols) is)
+
+-- the window once a row of its words was written
+row_written_in : (v : Rectangle) (cols r : ℕ) (old new entries : List ℕ) → IsFramed v cols → r < v.rows → old ≡ row_of v.words r → Wrote cols old new entries
+    → window (record v { words = with_row v.words r new }) cols ≡ record (window v cols) { bits = set (window v cols).bits r entries }
+row_written_in v cols r old new entries f below was wrote =
+    let before = row_of v.words r in
+    let long : length new ≡ length before = wrote.holds.long ∙ sym (row_width v r f.shape below ∙ f.wide) in
+    let same : refill before new ≡ new = refill_same before new long in
+    let within : bits_within cols new ≡ entries =
+    within_written cols new entries (omega (arith, wrote.holds.long)) wrote.holds.entries_long (λ j inside. sym (wrote.holds.bits j inside)) in
+    let past : bits_past cols new ≡ bits_past cols before = past_kept cols before new long (λ j outside. wrote.kept j outside ∙ ap (λ l. bit l j) was) in
+    same_window _ _ refl refl refl refl
+    (map-set (bits_within cols) v.words r (refill before new) ∙ ap (set (map (bits_within cols) v.words) r) (ap (bits_within cols) same ∙ within))
+    (map-set (bits_past cols) v.words r (refill before new)
+    ∙ ap (set (map (bits_past cols) v.words) r) (ap (bits_past cols) same ∙ past)
+    ∙ (sym (map-set (bits_past cols) v.words r before) ∙ ap (map (bits_past cols)) (set-get_or v.words r [])))
+
+pub row_written : (v : Rectangle) (cols r : ℕ) (old new entries : List ℕ) (w : Window) → window v cols ≡ w → IsFramed v cols → r < w.rows → old ≡ row_of v.words r
+    → Wrote cols old new entries → window (record v { words = with_row v.words r new }) cols ≡ record w { bits = set w.bits r entries }
+row_written v cols r old new entries w is f =
+    let P : Window → Type 0 = λ x. r < x.rows → old ≡ row_of v.words r → Wrote cols old new entries
+    → window (record v { words = with_row v.words r new }) cols ≡ record x { bits = set x.bits r entries } in
+    subst P is (row_written_in v cols r old new entries f)
+
+-- one bit
+pub wrote_bit : (cols c : ℕ) (old new xs : List ℕ) (value : ℕ) → Holds cols old xs → length new ≡ length old → c < cols
+    → bit new c ≡ value → ((k : ℕ) → k ≢ c → bit new k ≡ bit old k) → Wrote cols old new (set xs c value)
+wrote_bit cols c old new xs value h long within changed others = record {
+  holds = record {
+    long = long ∙ h.long;
+    entries_long = length-set xs c value ∙ h.entries_long;
+    bits = λ j inside. elim (cases_eq j c) [
+      | inl here ↦ rw here (get_or-set_same xs c value 0 (omega (arith, h.entries_long)) ∙ sym changed)
+      | inr away ↦ get_or-set_other xs c j value 0 away ∙ (h.bits j inside ∙ sym (others j away))
+    ];
+  };
+  kept = λ j past. others j (λ is. omega (arith, is));
+}
+
+-- a row that was added
+pub wrote_sum : (cols last : ℕ) (old src new xs ys : List ℕ) → last ≡ 2 ^ last_bits cols - 1 → new ≡ row_sum old (masked src last)
+    → Holds cols old xs → Holds cols src ys → Wrote cols old new (row_sum xs ys)
+wrote_sum cols last old src new xs ys mask sum h g =
+    let now : new ≡ row_sum old (masked src (2 ^ last_bits cols - 1)) = sum ∙ ap (λ m. row_sum old (masked src m)) mask in
+    let same : length old ≡ length src = h.long ∙ sym g.long in
+    let entries : length xs ≡ length ys = h.entries_long ∙ sym g.entries_long in
+    record {
+      holds = record {
+        long = ap length now ∙ (length-row_sum old (masked src (2 ^ last_bits cols - 1)) ∙ h.long);
+        entries_long = length-row_sum xs ys ∙ h.entries_long;
+        bits = λ j inside.
+            get_or-row_sum xs ys j entries
+            ∙ (λ i. bit_xor (h.bits j inside i) (g.bits j inside i))
+            ∙ sym (ap (λ l. bit l j) now ∙ bit-sum_masked_below old src cols j same g.long inside);
+      };
+      kept = λ j past. ap (λ l. bit l j) now ∙ bit-sum_masked_past old src cols j same g.long past;
+    }
+
+-- a row that was added from a column on
+get_or-sum_from : (c j : ℕ) (xs ys : List ℕ) → length xs ≡ length ys → c ≤ length xs → c ≤ j → get_or (sum_from c xs ys) j 0 ≡ bit_xor (get_or xs j 0) (get_or ys j 0)
+get_or-sum_from c j xs ys same within past =
+    let place : c + (j - c) ≡ j = omega arith in
+    let tails : length (drop c xs) ≡ length (drop c ys) = omega (arith, length-drop c xs, length-drop c ys) in
+    get_or-append_right (take c xs) (row_sum (drop c xs) (drop c ys)) c j 0 (length-take-le c xs within) past
+    ∙ (get_or-row_sum (drop c xs) (drop c ys) (j - c) tails
+    ∙ ((λ i. bit_xor (get_or-drop c xs (j - c) 0 i) (get_or-drop c ys (j - c) 0 i))
+    ∙ ap (λ k. bit_xor (get_or xs k 0) (get_or ys k 0)) place))
+
+get_or-sum_before : (c j : ℕ) (xs ys : List ℕ) → c ≤ length xs → j < c → get_or (sum_from c xs ys) j 0 ≡ get_or xs j 0
+get_or-sum_before c j xs ys within before =
+    get_or_append_left (take c xs) (row_sum (drop c xs) (drop c ys)) 0 j (omega (arith, length-take-le c xs within)) ∙ get_or-take c xs j 0 before
+
+length-sum_from : (c : ℕ) (xs ys : List ℕ) → c ≤ length xs → length (sum_from c xs ys) ≡ length xs
+length-sum_from c xs ys within =
+    omega (arith, length-append (take c xs) (row_sum (drop c xs) (drop c ys)), length-take-le c xs within, length-row_sum (drop c xs) (drop c ys), length-drop c xs)
+
+pub wrote_tail : (cols last c : ℕ) (old src new xs ys : List ℕ) → last ≡ 2 ^ last_bits cols - 1 → length new ≡ length old → c ≤ cols
+    → ((k : ℕ) → c ≤ k → bit new k ≡ bit (row_sum old (masked src last)) k) → ((k : ℕ) → k < c → bit new k ≡ bit old k)
+    → Holds cols old xs → Holds cols src ys → Wrote cols old new (sum_from c xs ys)
+wrote_tail cols last c old src new xs ys mask long within added stays h g =
+    let same : length old ≡ length src = h.long ∙ sym g.long in
+    let entries : length xs ≡ length ys = h.entries_long ∙ sym g.entries_long in
+    let room : c ≤ length xs = omega (arith, h.entries_long) in
+    let sums : (k : ℕ) → c ≤ k → bit new k ≡ bit (row_sum old (masked src (2 ^ last_bits cols - 1))) k =
+    λ k from. added k from ∙ ap (λ m. bit (row_sum old (masked src m)) k) mask in
+    record {
+      holds = record {
+        long = long ∙ h.long;
+        entries_long = length-sum_from c xs ys room ∙ h.entries_long;
+        bits = λ j inside. elim (cases_lt j c) [
+          | inl before ↦ get_or-sum_before c j xs ys room before ∙ (h.bits j inside ∙ sym (stays j before))
+          | inr from ↦
+              get_or-sum_from c j xs ys entries room from
+              ∙ (λ i. bit_xor (h.bits j inside i) (g.bits j inside i))
+              ∙ sym (sums j from ∙ bit-sum_masked_below old src cols j same g.long inside)
+        ];
+      };
+      kept = λ j past. sums j (omega arith) ∙ bit-sum_masked_past old src cols j same g.long past;
+    }
+
+-- a row that was copied
+pub wrote_copy : (cols last : ℕ) (old src new xs ys : List ℕ) → last ≡ 2 ^ last_bits cols - 1 → new ≡ overlaid old src last
+    → Holds cols old xs → Holds cols src ys → Wrote cols old new ys
+wrote_copy cols last old src new xs ys mask is h g =
+    let now : new ≡ overlaid old src (2 ^ last_bits cols - 1) = is ∙ ap (overlaid old src) mask in
+    record {
+      holds = record {
+        long = ap length now ∙ (length-overlaid old src (2 ^ last_bits cols - 1) ∙ g.long);
+        entries_long = g.entries_long;
+        bits = λ j inside. g.bits j inside ∙ sym (ap (λ l. bit l j) now ∙ bit-overlaid_below old src cols j g.long inside);
+      };
+      kept = λ j past. ap (λ l. bit l j) now ∙ bit-overlaid_past old src cols j (h.long ∙ sym g.long) g.long past;
+    }
+
+-- a row that was cleared
+pub wrote_zeros : (cols last : ℕ) (old new xs : List ℕ) (w : Window) (v : Rectangle) → window v cols ≡ w → last ≡ 2 ^ last_bits cols - 1 → new ≡ overlaid old (replicate (length old) 0) last
+    → Holds cols old xs → Wrote cols old new (replicate w.cols 0)
+wrote_zeros cols last old new xs w v is mask cleared h =
+    let now : new ≡ overlaid old (replicate (length old) 0) (2 ^ last_bits cols - 1) = cleared ∙ ap (overlaid old (replicate (length old) 0)) mask in
+    subst (λ n. Wrote cols old new (replicate n 0)) (ap (λ (y : Window). y.cols) is)
+    (record {
+      holds = record {
+        long = ap length now ∙ (length-overlaid old (replicate (length old) 0) (2 ^ last_bits cols - 1) ∙ (length-replicate (length old) 0 ∙ h.long));
+        entries_long = length-replicate cols 0;
+        bits = λ j inside. get_or-replicate cols j 0 0 inside ∙ sym (ap (λ l. bit l j) now ∙ bit-cleared_below old cols j h.long inside);
+      };
+      kept = λ j past. ap (λ l. bit l j) now ∙ bit-cleared_past old cols j h.long past;
+    })

@@ -1,0 +1,10 @@
+use Rattle.std.proofs.Common.{◌+◌, ◌*◌, get_or, ap, ◌∙◌}
+use Rattle.m4_mzd.specs.Shown.{bits_within}
+use Rattle.m4_mzd.proofs.WordLemmas.{row_in_view}
+use Rattle.m4_mzd.proofs.win.Win.word.Goals as goal
+
+pub returns : goal.returns
+returns c = λ j small.
+    c.word_of.ensures j small
+    ∙ ap (λ l. get_or (bits_within c.args.self.now.cols l) (c.args.w * 64 + j) 0) c.row.ensures.words
+    ∙ ap (λ l. get_or l (c.args.w * 64 + j) 0) (row_in_view c.args.self.now c.args.r c.requires.in_rows)

@@ -1,0 +1,5 @@
+use Rattle.m4_mzd.proofs.PartLemmas.{window_widen}
+use Rattle.m4_mzd.proofs.win_mut.WinMut.widen.Goals as goal
+
+pub returns : goal.returns
+returns c = window_widen c.self.inside.words c.self.inside.cols c.args.cols c.args.self c.self.view_is c.requires.more
