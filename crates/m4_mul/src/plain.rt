@@ -1,0 +1,92 @@
+//! The plain engine: a product is added row by row, in whole words.
+
+ghost use Rattle.std.specs.Prelude.{◌≡◌, ◌^◌, ◌<◌};
+ghost use Rattle.m4_model.specs.Matrix.{product, row, row_sum, with_row};
+ghost use Rattle.m4_mzd.specs.Window.{content, showing};
+ghost use Rattle.m4_mzd.specs.Seen.{shown};
+
+use m4_mzd::{AddMul, Shape, Win, WinMut};
+
+/// The engine that adds, to each row of the window, the rows of the second factor where the first has a one. It takes
+/// every product that a matrix can be.
+#[derive(Clone, Copy)]
+pub struct Plain;
+
+impl AddMul for Plain {
+    ghost limits = { λ _. record { m = 2 ^ 24; l = 2 ^ 24; n = 2 ^ 24 } };
+
+    fn reach(&self) -> Shape {
+        Shape {
+            m: 1 << 24,
+            l: 1 << 24,
+            n: 1 << 24,
+        }
+    }
+
+    fn addmul(&mut self, c: &mut WinMut, a: &Win, b: &Win) {
+        for i in 0..c.rows() {
+            add_row_of_product(c, i, a, b);
+        }
+    }
+}
+
+/// Adds row `i` of the product of `a` and `b` to row `i` of `c`: each row of `b` where row `i` of `a` has a one.
+fn add_row_of_product(c: &mut WinMut, i: u32, a: &Win, b: &Win)
+    requires in_rows { i < c.old.rows }
+    requires rows { (shown a.now).rows ≡ c.old.rows }
+    requires inner { (shown a.now).cols ≡ (shown b.now).rows }
+    requires cols { (shown b.now).cols ≡ c.old.cols }
+    ensures { c.new ≡ showing c.old (with_row (content c.old) i (row_sum (row (content c.old) i) (row (product (shown a.now) (shown b.now)) i))) }
+{
+    let _width = c.cols();
+    for t in 0..b.rows() {
+        if a.get(i, t) {
+            c.add_row(i, b, t);
+        }
+    }
+}
+
+#[cfg(test)]
+mod tests {
+    use super::Plain;
+    use m4_mzd::{AddMul, Mzd};
+    use std::test::Fail;
+
+    #[test]
+    fn a_product_is_added(rt: HostRuntime) -> Result<(), Fail> {
+        let mut a = Mzd::zeros(rt.alloc(), 2, 2)?;
+        a.put(0, 0, true);
+        a.put(0, 1, true);
+        let mut b = Mzd::zeros(rt.alloc(), 2, 130)?;
+        b.put(0, 0, true);
+        b.put(1, 64, true);
+        b.put(1, 129, true);
+        let mut c = Mzd::zeros(rt.alloc(), 2, 130)?;
+        c.put(0, 129, true);
+        c.put(1, 129, true);
+        let (mut all, home) = c.all_mut();
+        Plain.addmul(&mut all, &a.all(), &b.all());
+        assert!(rt; all.get(0, 0));
+        assert!(rt; all.get(0, 64));
+        assert!(rt; !all.get(0, 129));
+        assert!(rt; !all.get(1, 0));
+        assert!(rt; all.get(1, 129));
+        c.put_all(all, home);
+        Ok(())
+    }
+
+    #[test]
+    fn the_factors_are_parts_of_the_same_matrix(rt: HostRuntime) -> Result<(), Fail> {
+        let mut m = Mzd::zeros(rt.alloc(), 1, 129)?;
+        m.put(0, 67, true);
+        m.put(0, 128, true);
+        let (all, home) = m.all_mut();
+        let (mut left, rest) = all.split_cols(64);
+        let (middle, right) = rest.see().split_cols(64);
+        Plain.addmul(&mut left, &right, &middle);
+        assert!(rt; left.get(0, 3));
+        assert!(rt; !left.get(0, 4));
+        m.put_all(left.join_cols(rest), home);
+        Ok(())
+    }
+}
