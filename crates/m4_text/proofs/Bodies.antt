@@ -6,7 +6,7 @@ use Rattle.m4_model.specs.Field.{gf2}
 use Rattle.m4_model.specs.Matrix.{Matrix, IsMatrix}
 use Rattle.m4_model.specs.Text.{IsTextOf, header, line}
 use Rattle.m4_model.proofs.FieldLemmas.{gf2_field}
-use Rattle.m4_text.specs.Place.{GoesWrong, AreBits, IsLine, IsWrongText}
+use Rattle.m4_text.specs.Place.{GoesWrong, AreBits, IsLine, IsBareOf, IsWrongText}
 use Rattle.m4_text.proofs.Fronts.{IsPrefixFree, IsPrefixFree-same_length, IsLongest-from_next, Joined, GoesWrong-first, GoesWrong-second, GoesWrong-same}
 use Rattle.m4_text.proofs.Lines.{length-line, IsPrefixFree-line, begins_line}
 
@@ -39,7 +39,7 @@ rows_of_body (suc m) n w (a, b, (row, bits, spelled), rest, e) =
     (row ∷ rows, ap suc many, (bits, are), e ∙ ap₂ (λ x y. x ++ y) spelled lines)
 
 -- some m rows of n columns
-some_body : (m n : ℕ) → (w : List ℕ) × IsBody m n w
+pub some_body : (m n : ℕ) → (w : List ℕ) × IsBody m n w
 unfolding IsBody
 some_body zero n = ([], refl)
 some_body (suc m) n =
@@ -48,7 +48,7 @@ some_body (suc m) n =
     (first.0 ++ rest.0, (first.0, rest.0, first.1, rest.1, refl))
 
 -- bytes go wrong in the line of a row, behind the lines of the rows before it
-wrong_row : (i m n : ℕ) → i < m → (front after : List ℕ) (k : ℕ) → IsBody i n front → GoesWrong (IsLine n) after k
+pub wrong_row : (i m n : ℕ) → i < m → (front after : List ℕ) (k : ℕ) → IsBody i n front → GoesWrong (IsLine n) after k
     → GoesWrong (IsBody m n) (front ++ after) (length front + k)
 unfolding IsBody
 wrong_row i zero n below front after k before found = absurd (omega arith)
@@ -135,16 +135,25 @@ length-text m n w is =
     let (a, b, head, body, e) = head_and_body m n w is in
     omega (arith, ap length e, length-append a b, ap length head, length-body m n b body)
 
--- bytes that begin with a header line and the lines of i rows, and go wrong in the next line
-pub wrong_text : (i m n : ℕ) → i < m → (front after : List ℕ) (k : ℕ) → IsBody i n front → GoesWrong (IsLine n) after k
-    → GoesWrong (IsTextOf m n) ((header m n ++ front) ++ after) (length (header m n ++ front) + k)
-wrong_text i m n below front after k before found =
-    let inner = wrong_row i m n below front after k before found in
-    let wrong = GoesWrong-second (IsHead m n) (IsBody m n) (IsPrefixFree-head m n) (header m n) refl (front ++ after) (length front + k) inner in
-    let here : length (header m n) + (length front + k) ≡ length (header m n ++ front) + k =
-    omega (arith, length-append (header m n) front) in
+-- lines are a body
+pub body_of_bare : (m n : ℕ) (w : List ℕ) → IsBareOf m n w → IsBody m n w
+body_of_bare m n w (M, matrix, field, many, wide, e) =
+    subst (IsBody m n) (sym e)
+    (subst₂ (λ k l. IsBody k l (flat_map line M.entries)) (matrix.height ∙ many) wide
+    (body_of_rows M.cols M.entries (AreRows-matrix M matrix field)))
+
+pub bare_of_body : (m n : ℕ) (w : List ℕ) → IsBody m n w → IsBareOf m n w
+bare_of_body m n w body =
+    let (rows, many, are, lines) = rows_of_body m n w body in
+    (record { field = gf2; rows = m; cols = n; entries = rows }, IsMatrix-rows m n rows many are, refl, refl, refl, lines)
+
+-- bytes that begin with a header line, and go wrong in the lines behind it
+pub wrong_text : (m n : ℕ) (after : List ℕ) (k : ℕ) → GoesWrong (IsBareOf m n) after k
+    → GoesWrong (IsTextOf m n) (header m n ++ after) (length (header m n) + k)
+wrong_text m n after k found =
+    let body = GoesWrong-same (IsBareOf m n) (IsBody m n) (body_of_bare m n) (bare_of_body m n) after k found in
     GoesWrong-same _ (IsTextOf m n) (text_of_body m n) (head_and_body m n) _ _
-    (subst₂ (GoesWrong (Joined (IsHead m n) (IsBody m n))) (sym (append_assoc (header m n) front after)) here wrong)
+    (GoesWrong-second (IsHead m n) (IsBody m n) (IsPrefixFree-head m n) (header m n) refl after k body)
 
 -- what goes wrong isn't a text
 pub none_wrong : (P : List ℕ → Type 0) (bytes : List ℕ) (n : ℕ) → GoesWrong P bytes n → P bytes → ⊥

@@ -34,7 +34,7 @@ IsParts = Joined IsOpening IsSizes
 pub space_apart : IsAsciiDigit 32 → ⊥
 space_apart digit = omega (arith, digit.0)
 
-line_feed_apart : IsAsciiDigit 10 → ⊥
+pub line_feed_apart : IsAsciiDigit 10 → ⊥
 line_feed_apart digit = omega (arith, digit.0)
 
 -- a header, put together from its parts

@@ -6,3 +6,14 @@ pub mod Bodies
 pub mod Rows
 pub mod Refusals
 pub mod Writes
+pub mod Bares
+pub mod Columns
+pub mod TokenLemmas
+pub mod JcfHeaders
+pub mod JcfEntries
+pub mod JcfRefusals
+pub mod Readers
+pub mod JcfDecided
+pub mod Once
+pub mod JcfBack
+pub mod Decided

@@ -116,7 +116,7 @@ same_sizes bytes m n k l (rows, cols, rest, e) (rows', cols', rest', e') =
     (same_parts IsHeader IsPrefixFree-header (header m n) rest (header k l) rest' (m, n, rows, cols, refl) (k, l, rows', cols', refl) both).0
 
 -- a text begins with its header line
-own_header : (bytes : List ℕ) (M : Matrix) → Reads bytes M → HasHeader bytes M.rows M.cols
+pub own_header : (bytes : List ℕ) (M : Matrix) → Reads bytes M → HasHeader bytes M.rows M.cols
 own_header bytes M reads =
     (omega (arith, reads.accepted.limits.rows), omega (arith, reads.accepted.limits.cols), flat_map line M.entries, reads.spelled)
 

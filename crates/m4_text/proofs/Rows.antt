@@ -5,10 +5,11 @@ use Rattle.std.proofs.lemmas.Bool.{cases_eq}
 use Rattle.m4_model.specs.Field.{Field, gf2}
 use Rattle.m4_model.specs.Matrix.{Matrix, IsMatrix, row, with_row, with_entry}
 use Rattle.m4_model.specs.Text.{IsTextOf, header, line, text}
-use Rattle.m4_text.specs.Place.{GoesWrong, AreBits, IsLine, IsWrongText, IsBinaryDigit}
-use Rattle.m4_text.specs.Reading.{HasDigit, ReadsRow, ReadsRows}
+use Rattle.m4_text.specs.Place.{GoesWrong, AreBits, IsLine, IsBareOf, IsWrongText, IsBinaryDigit}
+use Rattle.m4_text.specs.Reading.{HasDigit, ReadsRow, ReadsRows, ReadsLines}
 use Rattle.m4_text.proofs.Lines.{entries_of, line_read}
-use Rattle.m4_text.proofs.Bodies.{IsBody, body_of_rows, AreRows, AreRows-matrix, AreRows-take, wrong_text, none_wrong, longer_text}
+use Rattle.m4_text.proofs.Fronts.{GoesWrong-same}
+use Rattle.m4_text.proofs.Bodies.{IsBody, body_of_rows, body_of_bare, bare_of_body, AreRows, AreRows-matrix, AreRows-take, wrong_row, wrong_text, none_wrong, longer_text}
 
 -- A row of which the first c entries are read.
 abbrev pub row_so_far : List ℕ → List ℕ → ℕ → List ℕ
@@ -76,7 +77,7 @@ changed_row rows r i es inside =
     ]
 
 -- a matrix with another row of bits is one
-IsMatrix-with_row : (A : Matrix) (r : ℕ) (es : List ℕ) → IsMatrix A → A.field ≡ gf2 → AreBits A.cols es → IsMatrix (with_row A r es)
+pub IsMatrix-with_row : (A : Matrix) (r : ℕ) (es : List ℕ) → IsMatrix A → A.field ≡ gf2 → AreBits A.cols es → IsMatrix (with_row A r es)
 IsMatrix-with_row A r es matrix field bits = record {
   over_field = matrix.over_field;
   height = length-set A.entries r es ∙ matrix.height;
@@ -94,25 +95,24 @@ IsMatrix-with_row A r es matrix field bits = record {
       ];
 }
 
--- The header line and the lines of r rows are read into the matrix, and end before this place.
+-- The lines of r rows are read into the matrix, and end before this place.
 pub record RowsSoFar (m n : ℕ) (bytes : List ℕ) (place r : ℕ) (A : Matrix) : Type 0 where
   pub rows : A.rows ≡ m
   pub cols : A.cols ≡ n
   pub matrix : IsMatrix A
   pub over_gf2 : A.field ≡ gf2
   pub within : place ≤ length bytes
-  pub spelled : take place bytes ≡ header m n ++ flat_map line (take r A.entries)
+  pub spelled : take place bytes ≡ flat_map line (take r A.entries)
 
 -- before the first row
-pub rows_begin : (bytes : List ℕ) (place : ℕ) (A : Matrix) → IsMatrix A → A.field ≡ gf2 → place ≤ length bytes
-    → take place bytes ≡ header A.rows A.cols → RowsSoFar A.rows A.cols bytes place 0 A
-rows_begin bytes place A matrix field within head = record {
+pub rows_begin : (bytes : List ℕ) (A : Matrix) → IsMatrix A → A.field ≡ gf2 → RowsSoFar A.rows A.cols bytes 0 0 A
+rows_begin bytes A matrix field = record {
   rows = refl;
   cols = refl;
   matrix = matrix;
   over_gf2 = field;
-  within = within;
-  spelled = head ∙ sym (append-nil (header A.rows A.cols));
+  within = omega arith;
+  spelled = refl;
 }
 
 -- one row more
@@ -120,7 +120,6 @@ pub rows_go_on : (m n : ℕ) (bytes : List ℕ) (place r : ℕ) (A new : Matrix)
     → ReadsRow (drop place bytes) A new r → RowsSoFar m n bytes (place + (n + 1)) (r + 1) new
 rows_go_on m n bytes place r A new below far read =
     let es = read.entries in
-    let head = header m n in
     let inside : r < length A.entries = omega (arith, far.rows, far.matrix.height) in
     let next : take (n + 1) (drop place bytes) ≡ line es = ap (λ k. take (k + 1) (drop place bytes)) (sym far.cols) ∙ read.spelled in
     let rows : take (r + 1) (set A.entries r es) ≡ take r A.entries ++ es ∷ [] = take_more_set A.entries r es inside in
@@ -131,47 +130,75 @@ rows_go_on m n bytes place r A new below far read =
       over_gf2 = far.over_gf2;
       within = omega (arith, read.within, far.cols, length-drop place bytes, far.within);
       spelled = take-add place (n + 1) bytes ∙ ap₂ (λ x y. x ++ y) far.spelled next
-          ∙ flat_map_more line head (take r A.entries) es
-          ∙ ap (λ (l : List (List ℕ)). head ++ flat_map line l) (sym rows);
+          ∙ flat_map_more line [] (take r A.entries) es
+          ∙ ap (λ (l : List (List ℕ)). flat_map line l) (sym rows);
     })
 
 -- a line that goes wrong
 pub rows_wrong : (m n : ℕ) (bytes : List ℕ) (place r k : ℕ) (A : Matrix) → r < m → RowsSoFar m n bytes place r A
-    → GoesWrong (IsLine A.cols) (drop place bytes) k → IsWrongText m n bytes (place + k)
+    → GoesWrong (IsLine A.cols) (drop place bytes) k → GoesWrong (IsBareOf m n) bytes (place + k)
 rows_wrong m n bytes place r k A below far found =
     let rows = take r A.entries in
     let many : length rows ≡ r = length-take-le r A.entries (omega (arith, far.rows, far.matrix.height)) in
     let are : AreRows n rows = subst (λ c. AreRows c rows) far.cols (AreRows-take A.cols r A.entries (AreRows-matrix A far.matrix far.over_gf2)) in
     let before : IsBody r n (flat_map line rows) = subst (λ c. IsBody c n (flat_map line rows)) many (body_of_rows n rows are) in
-    let wrong = wrong_text r m n below (flat_map line rows) (drop place bytes) k before
+    let wrong = wrong_row r m n below (flat_map line rows) (drop place bytes) k before
     (subst (λ c. GoesWrong (IsLine c) (drop place bytes) k) far.cols found) in
-    let whole : (header m n ++ flat_map line rows) ++ drop place bytes ≡ bytes =
+    let whole : flat_map line rows ++ drop place bytes ≡ bytes =
     ap (λ l. l ++ drop place bytes) (sym far.spelled) ∙ take-append-drop place bytes in
-    let here : length (header m n ++ flat_map line rows) + k ≡ place + k =
+    let here : length (flat_map line rows) + k ≡ place + k =
     ap (λ (l : List ℕ). length l + k) (sym far.spelled) ∙ ap (λ p. p + k) (length-take-le place bytes far.within) in
-    let placed : GoesWrong (IsTextOf m n) bytes (place + k) = subst₂ (GoesWrong (IsTextOf m n)) whole here wrong in
-    record { none = none_wrong (IsTextOf m n) bytes (place + k) placed; longest = placed.longest }
+    GoesWrong-same (IsBody m n) (IsBareOf m n) (bare_of_body m n) (body_of_bare m n) bytes (place + k)
+    (subst₂ (GoesWrong (IsBody m n)) whole here wrong)
 
--- all rows, spelled
-all_rows : (m n : ℕ) (bytes : List ℕ) (place : ℕ) (A : Matrix) → RowsSoFar m n bytes place m A → take place bytes ≡ text A
-all_rows m n bytes place A far =
-    far.spelled
-    ∙ ap (λ (l : List (List ℕ)). header m n ++ flat_map line l) (take_all m A.entries (omega (arith, far.rows, far.matrix.height)))
-    ∙ ap₂ (λ k l. header k l ++ flat_map line A.entries) (sym far.rows) (sym far.cols)
-
--- all rows, and nothing behind them
+-- all rows
 pub rows_end : (m n : ℕ) (bytes : List ℕ) (place : ℕ) (old A : Matrix) → old.rows ≡ m → old.cols ≡ n → RowsSoFar m n bytes place m A
-    → length bytes ≤ place → ReadsRows bytes old A
-rows_end m n bytes place old A many wide far end = record {
-  spelled = sym (take_all place bytes end) ∙ all_rows m n bytes place A far;
+    → ReadsLines bytes old A place
+rows_end m n bytes place old A many wide far = record {
+  within = far.within;
+  spelled = far.spelled
+      ∙ ap (λ (l : List (List ℕ)). flat_map line l) (take_all m A.entries (omega (arith, far.rows, far.matrix.height)));
   matrix = far.matrix;
   over_gf2 = far.over_gf2;
   rows = far.rows ∙ sym many;
   cols = far.cols ∙ sym wide;
 }
 
--- all rows, and something behind them
-pub rows_longer : (m n : ℕ) (bytes : List ℕ) (place : ℕ) (A : Matrix) → RowsSoFar m n bytes place m A
-    → place < length bytes → IsWrongText m n bytes place
-rows_longer m n bytes place A far inside =
-    longer_text m n bytes place inside (A, far.matrix, far.over_gf2, far.rows, far.cols, all_rows m n bytes place A far)
+-- the lines behind a header line
+module _ (bytes : List ℕ) (start : ℕ) (old : Matrix) (head : take start bytes ≡ header old.rows old.cols) (within : start ≤ length bytes) where
+  whole : header old.rows old.cols ++ drop start bytes ≡ bytes
+  whole = ap (λ w. w ++ drop start bytes) (sym head) ∙ take-append-drop start bytes
+
+  far : length (header old.rows old.cols) ≡ start
+  far = ap length (sym head) ∙ length-take-le start bytes within
+
+  -- they go wrong
+  pub text_wrong : (k : ℕ) → GoesWrong (IsBareOf old.rows old.cols) (drop start bytes) k → IsWrongText old.rows old.cols bytes (start + k)
+  text_wrong k found =
+      let wrong = wrong_text old.rows old.cols (drop start bytes) k found in
+      let here : length (header old.rows old.cols) + k ≡ start + k = ap (λ p. p + k) far in
+      let placed : GoesWrong (IsTextOf old.rows old.cols) bytes (start + k) = subst₂ (GoesWrong (IsTextOf old.rows old.cols)) whole here wrong in
+      record { none = none_wrong (IsTextOf old.rows old.cols) bytes (start + k) placed; longest = placed.longest }
+
+  -- they are read, and spell the text up to this place
+  spelled_text : (A : Matrix) (end : ℕ) → ReadsLines (drop start bytes) old A end → take (start + end) bytes ≡ text A
+  spelled_text A end read =
+      take-add start end bytes ∙ ap₂ (λ x y. x ++ y) head read.spelled
+      ∙ ap₂ (λ k l. header k l ++ flat_map line A.entries) (sym read.rows) (sym read.cols)
+
+  -- nothing stands behind them
+  pub text_end : (A : Matrix) (end : ℕ) → ReadsLines (drop start bytes) old A end → length bytes ≤ start + end → ReadsRows bytes old A
+  text_end A end read last = record {
+    spelled = sym (take_all (start + end) bytes last) ∙ spelled_text A end read;
+    matrix = read.matrix;
+    over_gf2 = read.over_gf2;
+    rows = read.rows;
+    cols = read.cols;
+  }
+
+  -- something stands behind them
+  pub text_longer : (A : Matrix) (end : ℕ) → ReadsLines (drop start bytes) old A end → start + end < length bytes
+      → IsWrongText old.rows old.cols bytes (start + end)
+  text_longer A end read inside =
+      longer_text old.rows old.cols bytes (start + end) inside
+      (A, read.matrix, read.over_gf2, read.rows, read.cols, spelled_text A end read)

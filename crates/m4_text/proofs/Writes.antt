@@ -1,9 +1,9 @@
 -- The writing of a text piece by piece.
-use Rattle.std.proofs.Common.{◌≡◌, ℕ, ◌+◌, ◌<◌, ◌≤◌, List, [], ◌∷◌, ◌++◌, length, get_or, map, take, drop, flat_map, Option, Result, Ok, Err, refl, sym, ◌∙◌, ap, subst, arith, append_assoc, length-append, length-take, length-drop, get_or-take, get_or-drop, ext_get_or, take-append-drop}
+use Rattle.std.proofs.Common.{◌≡◌, ℕ, ◌+◌, ◌<◌, ◌≤◌, List, [], ◌∷◌, ◌++◌, length, get_or, map, take, drop, flat_map, Option, Result, Ok, Err, refl, sym, ◌∙◌, ap, subst, arith, length-append, length-take, length-drop, get_or-take, get_or-drop, ext_get_or, take-append-drop}
 use Rattle.std.proofs.lemmas.List.{length-map, take_more, flat_map_more}
 use Rattle.std.proofs.lemmas.List.Concat.{flat_map-append}
 use Rattle.m4_model.specs.Matrix.{Matrix, row}
-use Rattle.m4_model.specs.Text.{header, line, text}
+use Rattle.m4_model.specs.Text.{line}
 use Rattle.m4_io.specs.Outside.{WritesAll}
 use Rattle.m4_io.specs.declared.failed.Failed.{Failed}
 use Rattle.m4_io.proofs.Writing.{writes_both, writes_stopped}
@@ -49,21 +49,18 @@ piece_filled piece es start count room inside same =
     get_or-take count piece k 0 few ∙ same k few ∙ sym (get_or-drop start (line es) k 0)
     ∙ sym (get_or-take count (drop start (line es)) k 0 few))
 
--- the rows that are written, and one more
-pub rows_written : (M : Matrix) (r : ℕ) → r < length M.entries
-    → (header M.rows M.cols ++ flat_map line (take r M.entries)) ++ line (row M r) ≡ header M.rows M.cols ++ flat_map line (take (r + 1) M.entries)
-rows_written M r inside =
-    flat_map_more line (header M.rows M.cols) (take r M.entries) (row M r)
-    ∙ ap (λ (l : List (List ℕ)). header M.rows M.cols ++ flat_map line l) (sym (take_more M.entries r [] inside))
+-- the rows that are written, and one more, by the lines of rows
+module _ (lined : List ℕ → List ℕ) (M : Matrix) (r : ℕ) (inside : r < length M.entries) where
+  pub rows_written : flat_map lined (take r M.entries) ++ lined (row M r) ≡ flat_map lined (take (r + 1) M.entries)
+  rows_written =
+      flat_map_more lined [] (take r M.entries) (row M r)
+      ∙ ap (λ (l : List (List ℕ)). flat_map lined l) (sym (take_more M.entries r [] inside))
 
--- and the rest of the text
-pub rows_left : (M : Matrix) (r : ℕ) → r < length M.entries
-    → text M ≡ ((header M.rows M.cols ++ flat_map line (take r M.entries)) ++ line (row M r)) ++ flat_map line (drop (r + 1) M.entries)
-rows_left M r inside =
-    let head = header M.rows M.cols in
-    let front = take (r + 1) M.entries in
-    let back = drop (r + 1) M.entries in
-    ap (λ (l : List (List ℕ)). head ++ flat_map line l) (sym (take-append-drop (r + 1) M.entries))
-    ∙ ap (λ l. head ++ l) (flat_map-append line front back)
-    ∙ sym (append_assoc head (flat_map line front) (flat_map line back))
-    ∙ ap (λ l. l ++ flat_map line back) (sym (rows_written M r inside))
+  -- and the rest of the text
+  pub rows_left : flat_map lined M.entries ≡ (flat_map lined (take r M.entries) ++ lined (row M r)) ++ flat_map lined (drop (r + 1) M.entries)
+  rows_left =
+      let front = take (r + 1) M.entries in
+      let back = drop (r + 1) M.entries in
+      ap (λ (l : List (List ℕ)). flat_map lined l) (sym (take-append-drop (r + 1) M.entries))
+      ∙ flat_map-append lined front back
+      ∙ ap (λ l. l ++ flat_map lined back) (sym rows_written)

@@ -1,3 +1,6 @@
 pub mod Place
 pub mod Reading
 pub mod Refused
+pub mod Tokens
+pub mod Forms
+pub mod Reader

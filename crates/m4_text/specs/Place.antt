@@ -1,7 +1,10 @@
 -- Where bytes go wrong, told part by part.
 use Rattle.std.specs.Prelude.{◌≡◌, ℕ, ◌-◌, ◌<◌, ◌≤◌, ◌⊎◌, List, [], ◌∷◌, ◌++◌, length, take, drop, slice_index, decimal, codes}
 use Rattle.std.specs.Char.{IsAsciiDigit}
+use Rattle.m4_model.specs.Field.{gf2}
+use Rattle.m4_model.specs.Matrix.{Matrix, IsMatrix}
 use Rattle.m4_model.specs.Text.{IsLongest, IsHeaderNumber, IsTextOf, header, line}
+use Rattle.m4_model.specs.Bare.{bare_text}
 
 -- The bytes go wrong at this place: the front before it is the longest that begins a text with P, and isn't one yet.
 pub record GoesWrong (P : List ℕ → Type 0) (bytes : List ℕ) (place : ℕ) : Type 0 where
@@ -65,6 +68,16 @@ IsLine n bytes = (entries : List ℕ) × AreBits n entries × (bytes ≡ line en
 -- The digit 0 or 1.
 abbrev pub IsBinaryDigit : ℕ → Type 0
 IsBinaryDigit byte = (48 ≤ byte) × (byte ≤ 49)
+
+-- The lines of the rows of some m x n matrix.
+abbrev pub IsBareOf : ℕ → ℕ → List ℕ → Type 0
+IsBareOf m n bytes = (M : Matrix) × IsMatrix M × (M.field ≡ gf2) × (M.rows ≡ m) × (M.cols ≡ n) × (bytes ≡ bare_text M)
+
+-- The bytes begin with the line of a row of n columns.
+pub record HasLine (bytes : List ℕ) (n : ℕ) : Type 0 where
+  pub inside : n < length bytes
+  pub digits : (j : ℕ) → j < n → IsBinaryDigit (slice_index bytes j)
+  pub ended : slice_index bytes n ≡ 10
 
 -- The bytes are no text of an m x n matrix, and go wrong at this place.
 pub record IsWrongText (m n : ℕ) (bytes : List ℕ) (place : ℕ) : Type 0 where

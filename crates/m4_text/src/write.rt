@@ -1,6 +1,7 @@
 ghost use Rattle.std.specs.Prelude.{◌≡◌, ◌+◌, ◌≤◌, ◌<◌, [], ◌∷◌, ◌++◌, decimal, length, take, drop, slice_index};
 ghost use Rattle.m4_model.specs.Matrix.{row};
 ghost use Rattle.m4_model.specs.Text.{header, line, text};
+ghost use Rattle.m4_model.specs.Bare.{bare_text};
 ghost use Rattle.m4_io.specs.Outside.{WritesAll};
 
 use itoa::Buffer;
@@ -16,6 +17,14 @@ pub fn write_text<O: Sink>(m: &Mzd, sink: &mut O) -> Result<(), Failed>
         (text m.now) }
 {
     write_header(m.rows(), m.cols(), sink)?;
+    write_lines(m, sink)
+}
+
+/// Writes the lines of the matrix's rows.
+pub fn write_lines<O: Sink>(m: &Mzd, sink: &mut O) -> Result<(), Failed>
+    ensures { WritesAll (O.taken sink.old) (O.taken sink.new) (O.faults sink.old) (O.faults sink.new) result
+        (bare_text m.now) }
+{
     for r in 0..m.rows() {
         write_row(m, r, sink)?;
     }
@@ -28,12 +37,12 @@ fn write_header<O: Sink>(rows: u32, cols: u32, sink: &mut O) -> Result<(), Faile
         (header rows cols) }
 {
     write_whole(sink, b"gf2 ")?;
-    write_number(rows, b' ', sink)?;
-    write_number(cols, b'\n', sink)
+    write_number(u64::from(rows), b' ', sink)?;
+    write_number(u64::from(cols), b'\n', sink)
 }
 
 /// Writes the number, and the byte that ends it.
-fn write_number<O: Sink>(number: u32, ending: u8, sink: &mut O) -> Result<(), Failed>
+pub fn write_number<O: Sink>(number: u64, ending: u8, sink: &mut O) -> Result<(), Failed>
     ensures { WritesAll (O.taken sink.old) (O.taken sink.new) (O.faults sink.old) (O.faults sink.new) result
         (decimal number ++ ending ∷ []) }
 {

@@ -1,33 +1,29 @@
-use Rattle.std.proofs.Common.{◌≡◌, ◌+◌, drop, sym, subst, arith}
+use Rattle.std.proofs.Common.{drop, subst, arith}
 use Rattle.std.proofs.lemmas.List.{take_rest}
-use Rattle.m4_text.specs.Place.{GoesWrong, IsLine}
-use Rattle.m4_text.specs.Reading.{ReadsRow}
-use Rattle.m4_text.proofs.Rows.{RowsSoFar, rows_go_on, rows_wrong, rows_longer}
+use Rattle.m4_text.specs.Place.{GoesWrong, IsBareOf}
+use Rattle.m4_text.specs.Reading.{ReadsLines}
+use Rattle.m4_text.proofs.Rows.{text_wrong, text_end, text_longer}
 use Rattle.m4_text.proofs.body.read_rows.Goals as goal
+
+pub returns-then-start-end-clause-err : goal.returns-then-start-end-clause-err
+returns-then-start-end-clause-err c =
+    let bytes = c.args.bytes.now in
+    let old = c.args.m.now in
+    let read : ReadsLines (drop c.args.start bytes) old c.read_lines.new.m c.in-Ok.end =
+    subst (λ w. ReadsLines w old c.read_lines.new.m c.in-Ok.end) (take_rest bytes c.args.start) c.in-Ok.ensures.ok in
+    text_longer bytes c.args.start old c.requires.head c.requires.within c.read_lines.new.m c.in-Ok.end read (omega arith)
+
+pub returns-else-start-end-clause-ok : goal.returns-else-start-end-clause-ok
+returns-else-start-end-clause-ok c =
+    let bytes = c.args.bytes.now in
+    let old = c.args.m.now in
+    let read : ReadsLines (drop c.args.start bytes) old c.read_lines.new.m c.in-Ok.end =
+    subst (λ w. ReadsLines w old c.read_lines.new.m c.in-Ok.end) (take_rest bytes c.args.start) c.in-Ok.ensures.ok in
+    text_end bytes c.args.start old c.requires.head c.requires.within c.read_lines.new.m c.in-Ok.end read (omega arith)
 
 pub returns-in-Err-clause-err : goal.returns-in-Err-clause-err
 returns-in-Err-clause-err c =
-    let old = c.args.m.now in
     let bytes = c.args.bytes.now in
-    let now = c.loop-r in
-    rows_wrong old.rows old.cols bytes now.place now.r c.in-Err.wrong now.m (omega (arith, c.rows-r-end.ensures.rows)) now.invariant
-    (subst (λ w. GoesWrong (IsLine now.m.cols) w c.in-Err.wrong) (take_rest bytes now.place) c.in-Err.ensures.err)
-
-pub loop-r-preserved : goal.loop-r-preserved
-loop-r-preserved c =
     let old = c.args.m.now in
-    let bytes = c.args.bytes.now in
-    let now = c.loop-r in
-    let read : ReadsRow (drop now.place bytes) now.m c.read_row.new.m now.r =
-    subst (λ w. ReadsRow w now.m c.read_row.new.m now.r) (take_rest bytes now.place) c.in_default.ensures.ok in
-    subst (λ n. RowsSoFar old.rows old.cols bytes (now.place + (n + 1)) (now.r + 1) c.read_row.new.m) (sym c.cols.ensures.cols)
-    (rows_go_on old.rows old.cols bytes now.place now.r now.m c.read_row.new.m (omega (arith, c.rows-r-end.ensures.rows)) now.invariant read)
-
-pub returns-then-place-bytes-clause-err : goal.returns-then-place-bytes-clause-err
-returns-then-place-bytes-clause-err c =
-    let old = c.args.m.now in
-    let bytes = c.args.bytes.now in
-    let now = c.loop-r in
-    let all : now.r ≡ old.rows = omega (arith, c.rows-r-end.ensures.rows) in
-    rows_longer old.rows old.cols bytes now.place now.m
-    (subst (λ r. RowsSoFar old.rows old.cols bytes now.place r now.m) all now.invariant) c.if-place-bytes.true
+    text_wrong bytes c.args.start old c.requires.head c.requires.within c.in-Err.wrong
+    (subst (λ w. GoesWrong (IsBareOf old.rows old.cols) w c.in-Err.wrong) (take_rest bytes c.args.start) c.in-Err.ensures.err)

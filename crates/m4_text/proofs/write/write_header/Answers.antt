@@ -1,4 +1,4 @@
-use Rattle.std.proofs.Common.{◌≡◌, ◌++◌, ◌∷◌, [], ℕ, codes, decimal, append_assoc, ◌∙◌, sym, Ok}
+use Rattle.std.proofs.Common.{◌≡◌, ◌++◌, ◌∷◌, [], ℕ, codes, decimal, append_assoc, ◌∙◌, sym, ap₂, Ok, refl}
 use Rattle.std.proofs.lemmas.Result.{err_from_is_err_and}
 use Rattle.m4_model.specs.Text.{header}
 use Rattle.m4_text.proofs.Headers.{header_joined}
@@ -6,8 +6,10 @@ use Rattle.m4_text.proofs.Writes.{front_fails, piece_written, piece_fails}
 use Rattle.m4_text.proofs.write.write_header.Goals as goal
 
 -- the header line in the pieces that are written
-parts : (m n : ℕ) → header m n ≡ (codes "gf2 " ++ (decimal m ++ 32 ∷ [])) ++ (decimal n ++ 10 ∷ [])
-parts m n = sym (append_assoc (codes "gf2 ") (decimal m ++ 32 ∷ []) (decimal n ++ 10 ∷ []) ∙ header_joined m n)
+parts : (m n k l : ℕ) → k ≡ m → l ≡ n → header m n ≡ (codes "gf2 " ++ (decimal k ++ 32 ∷ [])) ++ (decimal l ++ 10 ∷ [])
+parts m n k l rows cols =
+    sym (append_assoc (codes "gf2 ") (decimal m ++ 32 ∷ []) (decimal n ++ 10 ∷ []) ∙ header_joined m n)
+    ∙ ap₂ (λ x y. (codes "gf2 " ++ (decimal x ++ 32 ∷ [])) ++ (decimal y ++ 10 ∷ [])) (sym rows) (sym cols)
 
 pub returns-in_err-write_whole : goal.returns-in_err-write_whole
 returns-in_err-write_whole g c =
@@ -17,10 +19,10 @@ returns-in_err-write_whole g c =
 pub returns-in_err-write_number : goal.returns-in_err-write_number
 returns-in_err-write_number g c =
     let p = err_from_is_err_and c.from_residual-in_err-write_number.result c.from_residual-in_err-write_number.ensures.1 in
-    piece_fails _ (parts c.args.rows c.args.cols) c.in_ok-write_whole.ensures c.in_err-write_number.ensures p.1
+    piece_fails (decimal c.args.cols ++ 10 ∷ []) (parts c.args.rows c.args.cols c.from.result c.args.cols c.from.ensures refl) c.in_ok-write_whole.ensures c.in_err-write_number.ensures p.1
 
 pub returns : goal.returns
 returns g c =
-    piece_written (parts c.args.rows c.args.cols)
-    (piece_written {result = Ok tt} (λ i. codes "gf2 " ++ (decimal c.args.rows ++ 32 ∷ [])) c.in_ok-write_whole.ensures c.in_ok-write_number.ensures)
+    piece_written (parts c.args.rows c.args.cols c.from.result c.from-2.result c.from.ensures c.from-2.ensures)
+    (piece_written {result = Ok tt} refl c.in_ok-write_whole.ensures c.in_ok-write_number.ensures)
     c.write_number-2.ensures

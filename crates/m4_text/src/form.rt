@@ -1,0 +1,81 @@
+ghost use Rattle.std.specs.Prelude.{◌↔◌, ◌<◌, IsTrue, IfOk, IfErr};
+ghost use Rattle.m4_model.specs.Jcf.{IsZeroRow, CanBeJcf};
+ghost use Rattle.m4_model.specs.Texts.{can_hold, text_as, ReadsAs};
+ghost use Rattle.m4_io.specs.Outside.{WritesAll};
+ghost use Rattle.m4_text.specs.Forms.{text_form};
+ghost use Rattle.m4_text.specs.Refused.{IsRefusedIn};
+
+use crate::TextFault;
+use crate::bare::read_bare;
+use crate::jcf_read::read_jcf;
+use crate::jcf_write::{is_zero_row, write_jcf};
+use crate::read::read_text;
+use crate::write::{write_lines, write_text};
+use m4_io::{Failed, Sink};
+use m4_mzd::Mzd;
+use std::alloc::Global;
+
+/// A form of a text over GF(2).
+#[derive(Clone, Copy, Debug, PartialEq, Eq)]
+pub enum Form {
+    /// Headed text: a header with the sizes, and a line of digits for each row.
+    Text,
+    /// Bare text: the lines of digits alone.
+    Bare,
+    /// JCF: the columns of the ones, row by row, as numbers.
+    Jcf,
+}
+
+/// Reads the bytes as the text of one matrix in this form.
+///
+/// A fault is that of the bytes. Where more than 2^29 of them are given, it is that of every file that begins with them.
+pub fn read_as(alloc: Global, form: Form, bytes: &[u8]) -> Result<Mzd, TextFault>
+    ensures ok { IfOk result (ReadsAs (text_form form) bytes.now) }
+    ensures err { IfErr result (IsRefusedIn (text_form form) bytes.now) }
+{
+    match form {
+        Form::Text => read_text(alloc, bytes),
+        Form::Bare => read_bare(alloc, bytes),
+        Form::Jcf => read_jcf(alloc, bytes),
+    }
+}
+
+/// Whether the form can hold the matrix: bare text no matrix of columns without a row, JCF no row of zeros before
+/// another row.
+pub fn can_write(m: &Mzd, form: Form) -> bool
+    ensures { IsTrue result ↔ can_hold (text_form form) m.now }
+{
+    match form {
+        Form::Text => true,
+        Form::Bare => m.rows() > 0 || m.cols() == 0,
+        Form::Jcf => zero_rows_stand_last(m),
+    }
+}
+
+/// Writes the text of the matrix in this form. It takes no memory.
+pub fn write_as<O: Sink>(m: &Mzd, form: Form, sink: &mut O) -> Result<(), Failed>
+    requires { can_hold (text_form form) m.now }
+    ensures { WritesAll (O.taken sink.old) (O.taken sink.new) (O.faults sink.old) (O.faults sink.new) result
+        (text_as (text_form form) m.now) }
+{
+    match form {
+        Form::Text => write_text(m, sink),
+        Form::Bare => write_lines(m, sink),
+        Form::Jcf => write_jcf(m, sink),
+    }
+}
+
+/// Whether no row of zeros stands before another row.
+fn zero_rows_stand_last(m: &Mzd) -> bool
+    ensures { IsTrue result ↔ CanBeJcf m.now }
+{
+    let mut zero_before = false;
+    for r in 0..m.rows() {
+        let zero = is_zero_row(m, r);
+        if zero_before && !zero {
+            return false;
+        }
+        zero_before = zero;
+    }
+    true
+}

@@ -1,0 +1,111 @@
+ghost use Rattle.std.specs.Prelude.{◌≡◌, ◌↔◌, IsTrue, ◌<◌, ◌≤◌, ◌∷◌, decimal, if◌then◌else◌, length};
+ghost use Rattle.m4_model.specs.Matrix.{row};
+ghost use Rattle.m4_model.specs.Jcf.{jcf_text, jcf_header, jcf_lines, line_of_columns, nonzero_columns, nonzeros, IsZeroRow};
+ghost use Rattle.m4_io.specs.Outside.{WritesAll};
+
+use crate::write::write_number;
+use itoa::Buffer;
+use m4_io::{Failed, Sink, write_whole};
+use m4_mzd::Mzd;
+
+/// Writes the JCF text of the matrix: its header, and then the columns of the ones, row by row. It takes no memory.
+pub fn write_jcf<O: Sink>(m: &Mzd, sink: &mut O) -> Result<(), Failed>
+    ensures { WritesAll (O.taken sink.old) (O.taken sink.new) (O.faults sink.old) (O.faults sink.new) result
+        (jcf_text m.now) }
+{
+    write_jcf_header(m, sink)?;
+    write_rows(m, sink)
+}
+
+/// Writes the header of the matrix.
+fn write_jcf_header<O: Sink>(m: &Mzd, sink: &mut O) -> Result<(), Failed>
+    ensures { WritesAll (O.taken sink.old) (O.taken sink.new) (O.faults sink.old) (O.faults sink.new) result
+        (jcf_header m.now.rows m.now.cols (nonzeros m.now)) }
+{
+    write_number(u64::from(m.rows()), b' ', sink)?;
+    write_number(u64::from(m.cols()), b' ', sink)?;
+    write_whole(sink, b"2\n")?;
+    write_number(count_ones(m), b'\n', sink)
+}
+
+/// Writes the lines of the matrix's rows.
+fn write_rows<O: Sink>(m: &Mzd, sink: &mut O) -> Result<(), Failed>
+    ensures { WritesAll (O.taken sink.old) (O.taken sink.new) (O.faults sink.old) (O.faults sink.new) result
+        (jcf_lines m.now) }
+{
+    for r in 0..m.rows() {
+        write_columns(m, r, sink)?;
+    }
+    Ok(())
+}
+
+/// Writes the line of row `r`: nothing where it has no ones.
+fn write_columns<O: Sink>(m: &Mzd, r: u32, sink: &mut O) -> Result<(), Failed>
+    requires { r < m.now.rows }
+    ensures { WritesAll (O.taken sink.old) (O.taken sink.new) (O.faults sink.old) (O.faults sink.new) result
+        (line_of_columns (nonzero_columns 1 (row m.now r))) }
+{
+    let mut first = true;
+    for c in 0..m.cols() {
+        if m.get(r, c) {
+            write_column(byte_before(first), c + 1, sink)?;
+            first = false;
+        }
+    }
+    if first {
+        Ok(())
+    } else {
+        write_whole(sink, b"\n")
+    }
+}
+
+/// The byte before the number of a column: a minus sign where it is the first of its row, and else a space.
+fn byte_before(first: bool) -> u8
+    ensures { result ≡ (if first then 45 else 32) }
+{
+    if first { b'-' } else { b' ' }
+}
+
+/// Writes the number of a column, behind this byte.
+fn write_column<O: Sink>(before: u8, column: u32, sink: &mut O) -> Result<(), Failed>
+    ensures { WritesAll (O.taken sink.old) (O.taken sink.new) (O.faults sink.old) (O.faults sink.new) result
+        (before ∷ decimal column) }
+{
+    write_whole(sink, &[before])?;
+    let mut buffer = Buffer::new();
+    write_whole(sink, buffer.format(column).as_bytes())
+}
+
+/// How many entries of the matrix are 1.
+fn count_ones(m: &Mzd) -> u64
+    ensures { result ≡ nonzeros m.now }
+{
+    let mut count = 0;
+    for r in 0..m.rows() {
+        count += u64::from(count_ones_in(m, r));
+    }
+    count
+}
+
+/// Whether row `r` has only zeros.
+pub fn is_zero_row(m: &Mzd, r: u32) -> bool
+    requires { r < m.now.rows }
+    ensures { IsTrue result ↔ IsZeroRow m.now r }
+{
+    count_ones_in(m, r) == 0
+}
+
+/// How many entries of row `r` are 1.
+fn count_ones_in(m: &Mzd, r: u32) -> u32
+    requires { r < m.now.rows }
+    ensures ones { result ≡ length (nonzero_columns 1 (row m.now r)) }
+    ensures few { result ≤ m.now.cols }
+{
+    let mut count = 0;
+    for c in 0..m.cols() {
+        if m.get(r, c) {
+            count += 1;
+        }
+    }
+    count
+}
