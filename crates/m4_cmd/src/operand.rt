@@ -1,6 +1,6 @@
-ghost use Rattle.std.specs.Prelude.{◌≡◌, IfOk, IfErr, OnOk};
-ghost use Rattle.m4_model.specs.Text.{Reads};
-ghost use Rattle.m4_cmd.specs.Steps.{IsReadAs, OperandFails, TextFails};
+ghost use Rattle.std.specs.Prelude.{◌≡◌, IfOk, IfErr, OnOk, [], ◌∷◌};
+ghost use Rattle.m4_model.specs.Text.{Reads, IsWithinLimits};
+ghost use Rattle.m4_cmd.specs.Steps.{IsReadAs, AreReadAs, OperandFails, OperandsFail, TextFails};
 
 use m4_io::{ReadFault, Shelf, read_whole};
 use m4_model::Status;
@@ -20,6 +20,7 @@ pub(crate) fn read_operand<S: Shelf>(
 ) -> Result<Mzd, Status>
     ensures stock { S.stock shelf.new ≡ S.stock shelf.old }
     ensures read { IfOk result (λ m. IsReadAs (S.stock shelf.old) name.now m) }
+    ensures limits { IfOk result (λ m. IsWithinLimits m.rows m.cols) }
     ensures kept { OnOk result (S.faults shelf.new ≡ S.faults shelf.old) }
     ensures fails { IfErr result (OperandFails (S.stock shelf.old) name.now number (S.faults shelf.old) (S.faults shelf.new)) }
 {
@@ -44,4 +45,41 @@ fn matrix_in(alloc: Global, bytes: &[u8], number: u64) -> Result<Mzd, Status>
         Err(TextFault::Limit) => Err(Status::Limit),
         Err(TextFault::NoMemory) => Err(Status::Memory),
     }
+}
+
+/// Reads two files, the second after the first was accepted.
+pub(crate) fn read_two<S: Shelf>(
+    alloc: Global,
+    shelf: &mut S,
+    a: &str,
+    b: &str,
+) -> Result<(Mzd, Mzd), Status>
+    ensures stock { S.stock shelf.new ≡ S.stock shelf.old }
+    ensures read { IfOk result (λ m. AreReadAs (S.stock shelf.old) (a.now ∷ b.now ∷ []) (m.0 ∷ m.1 ∷ [])) }
+    ensures kept { OnOk result (S.faults shelf.new ≡ S.faults shelf.old) }
+    ensures fails { IfErr result (OperandsFail (S.stock shelf.old) (a.now ∷ b.now ∷ []) (S.faults shelf.old) (S.faults shelf.new)) }
+{
+    let first = read_operand(alloc, shelf, a, 1)?;
+    let second = read_operand(alloc, shelf, b, 2)?;
+    Ok((first, second))
+}
+
+/// Reads three files, each after those before it were accepted.
+pub(crate) fn read_three<S: Shelf>(
+    alloc: Global,
+    shelf: &mut S,
+    a: &str,
+    b: &str,
+    c: &str,
+) -> Result<(Mzd, Mzd, Mzd), Status>
+    ensures stock { S.stock shelf.new ≡ S.stock shelf.old }
+    ensures read { IfOk result (λ m. AreReadAs (S.stock shelf.old) (a.now ∷ b.now ∷ c.now ∷ []) (m.0 ∷ m.1 ∷ m.2 ∷ [])) }
+    ensures first_limits { IfOk result (λ m. IsWithinLimits m.0.rows m.0.cols) }
+    ensures kept { OnOk result (S.faults shelf.new ≡ S.faults shelf.old) }
+    ensures fails { IfErr result (OperandsFail (S.stock shelf.old) (a.now ∷ b.now ∷ c.now ∷ []) (S.faults shelf.old) (S.faults shelf.new)) }
+{
+    let first = read_operand(alloc, shelf, a, 1)?;
+    let second = read_operand(alloc, shelf, b, 2)?;
+    let third = read_operand(alloc, shelf, c, 3)?;
+    Ok((first, second, third))
 }

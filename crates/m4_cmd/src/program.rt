@@ -1,17 +1,17 @@
 ghost use Rattle.std.specs.Prelude.{◌≡◌, ◌<◌, ◌⊎◌, ◌↔◌, ℕ, Some, Err, IfOk, IfErr, OnOk, [], ◌∷◌};
 ghost use Rattle.std.specs.Io.KnownBytes.{Keeps};
 ghost use Rattle.m4_model.specs.Text.{text};
-ghost use Rattle.m4_model.specs.Words.{job, Mul};
+ghost use Rattle.m4_model.specs.Words.{job, Mul, Addmul};
 ghost use Rattle.m4_model.specs.Outcome.{Stock};
 ghost use Rattle.m4_io.specs.Outside.{Rose};
 ghost use Rattle.m4_cmd.specs.Job.{texts, task_of_job};
 ghost use Rattle.m4_cmd.specs.Run.{IsAsked, IsAnswered, IsJudged, IsRefused, LacksOperand, Answers, AnswersInPart, Reports};
 ghost use Rattle.m4_cmd.specs.Steps.{TaskGives, WorkGives, EndsUnwritten, IsTaskAnswer, WriteGives};
 
-use crate::answer::mul_answer;
+use crate::answer::{addmul_answer, mul_answer};
 use crate::fault_line::line_of;
 use crate::gate::Gate;
-use crate::operand::read_operand;
+use crate::operand::{read_three, read_two};
 use crate::words::{Task, job_of};
 use m4_io::{Failed, Shelf, Sink, write_whole};
 use m4_model::Status;
@@ -120,6 +120,7 @@ fn answer_of<S: Shelf>(alloc: Global, task: &Task, shelf: &mut S) -> Result<Mzd,
 {
     match task {
         Task::Mul { a, b } => mul(alloc, shelf, a, b),
+        Task::Addmul { c, r0, c0, a, b } => addmul(alloc, shelf, c, (*r0, *c0), a, b),
     }
 }
 
@@ -131,9 +132,28 @@ fn mul<S: Shelf>(alloc: Global, shelf: &mut S, a: &str, b: &str) -> Result<Mzd, 
     ensures fails { IfErr result (EndsUnwritten (S.stock shelf.old) (record { command = Mul; files = a.now ∷ b.now ∷ [] })
         (S.faults shelf.old) (S.faults shelf.new)) }
 {
-    let left = read_operand(alloc, shelf, a, 1)?;
-    let right = read_operand(alloc, shelf, b, 2)?;
+    let (left, right) = read_two(alloc, shelf, a, b)?;
     mul_answer(alloc, &left, &right)
+}
+
+/// The answer of `addmul` at a place, its row and its column.
+fn addmul<S: Shelf>(
+    alloc: Global,
+    shelf: &mut S,
+    c: &str,
+    place: (u32, u32),
+    a: &str,
+    b: &str,
+) -> Result<Mzd, Status>
+    ensures stock { S.stock shelf.new ≡ S.stock shelf.old }
+    ensures answer { IfOk result (IsTaskAnswer (S.stock shelf.old)
+        (record { command = Addmul place.0 place.1; files = c.now ∷ a.now ∷ b.now ∷ [] })) }
+    ensures kept { OnOk result (S.faults shelf.new ≡ S.faults shelf.old) }
+    ensures fails { IfErr result (EndsUnwritten (S.stock shelf.old)
+        (record { command = Addmul place.0 place.1; files = c.now ∷ a.now ∷ b.now ∷ [] }) (S.faults shelf.old) (S.faults shelf.new)) }
+{
+    let (sum, left, right) = read_three(alloc, shelf, c, a, b)?;
+    addmul_answer(sum, place.0, place.1, &left, &right)
 }
 
 /// Writes the text of an answer.

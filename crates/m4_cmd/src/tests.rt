@@ -62,10 +62,24 @@ fn run_on(
 ) -> Result<Ended, NoMemory>
     requires { 0 < outside.now.step }
 {
+    run_over(alloc, words, [a, b, b""], outside)
+}
+
+/// Runs these words over the files A, B and C.
+fn run_over(
+    alloc: Global,
+    words: &[&str],
+    operands: [&[u8]; 3],
+    outside: &Outside,
+) -> Result<Ended, NoMemory>
+    requires { 0 < outside.now.step }
+{
+    let [a, b, c] = operands;
     let words = texts(alloc, words)?;
     let mut files = Vec::new(alloc);
     files.push(file(alloc, "A", a)?)?;
     files.push(file(alloc, "B", b)?)?;
+    files.push(file(alloc, "C", c)?)?;
     let failing = Vec::from_slice(alloc, outside.failing)?;
     let mut shelf = MemShelf::new(files, outside.step, failing);
     let mut out = MemSink::new(alloc, outside.out_room, Vec::new(alloc))?;
@@ -109,6 +123,62 @@ fn products(rt: HostRuntime) -> Result<(), Fail> {
     Ok(())
 }
 
+const ONE: &str = "gf2 1 1\n1\n";
+
+const TWO_ONES: &str = "gf2 1 2\n11\n";
+
+/// Runs `addmul` over a file with this text, at this place, with factors of these texts.
+fn add_to(
+    alloc: Global,
+    c: &[u8],
+    row: &str,
+    col: &str,
+    a: &str,
+    b: &str,
+) -> Result<Ended, NoMemory> {
+    let words = ["addmul", "C", row, col, "A", "B"];
+    let operands = [a.as_bytes(), b.as_bytes(), c];
+    run_over(alloc, &words, operands, &AMPLE)
+}
+
+#[test]
+fn products_that_are_added(rt: HostRuntime) -> Result<(), Fail> {
+    let ones = "1".repeat(rt.alloc(), 130)?;
+    let c = format!(in rt.alloc(); "gf2 2 130\n{ones}\n{ones}\n")?;
+    for (col, left, right) in [("0", 0, 128), ("64", 64, 64), ("128", 128, 0)] {
+        let left = "1".repeat(rt.alloc(), left)?;
+        let right = "1".repeat(rt.alloc(), right)?;
+        let sum = format!(in rt.alloc(); "gf2 2 130\n{ones}\n{left}00{right}\n")?;
+        let ended = add_to(rt.alloc(), c.as_bytes(), "1", col, ONE, TWO_ONES)?;
+        assert_ended(&rt, &ended, Status::Done, sum.as_bytes(), "");
+    }
+    Ok(())
+}
+
+/// Places and factors that `addmul` refuses for a matrix of two rows and 130 columns.
+const MISFITS: [(&str, &str, &str, &str); 6] = [
+    ("1", "3", ONE, TWO_ONES),
+    ("2", "64", ONE, TWO_ONES),
+    ("1", "192", ONE, "gf2 1 0\n\n"),
+    ("999999999", "64", ONE, TWO_ONES),
+    ("1", "128", ONE, "gf2 1 3\n111\n"),
+    ("1", "64", TWO_ONES, TWO_ONES),
+];
+
+#[test]
+fn products_that_are_not_added(rt: HostRuntime) -> Result<(), Fail> {
+    let zeros = "0".repeat(rt.alloc(), 130)?;
+    let c = format!(in rt.alloc(); "gf2 2 130\n{zeros}\n{zeros}\n")?;
+    for (row, col, a, b) in MISFITS {
+        let ended = add_to(rt.alloc(), c.as_bytes(), row, col, a, b)?;
+        assert_eq!(rt; ended.status, Status::Shape);
+        assert_eq!(rt; ended.out.taken().len(), 0);
+    }
+    let ended = add_to(rt.alloc(), c.as_bytes(), "1", "64", ONE, "gf2 1 2\n12\n")?;
+    assert_eq!(rt; ended.status, Status::Text { operand: 3, at: 9 });
+    Ok(())
+}
+
 #[test]
 fn words(rt: HostRuntime) -> Result<(), Fail> {
     let none: [&str; 0] = [];
@@ -119,6 +189,12 @@ fn words(rt: HostRuntime) -> Result<(), Fail> {
         (["mul", "A", "B", "C"].as_slice(), 4),
         (["mul", "--k=9", "A", "B"].as_slice(), 2),
         (["mul", "--k=08", "A", "B"].as_slice(), 2),
+        (["addmul", "C", "1", "64", "A"].as_slice(), 6),
+        (["addmul", "C", "1", "64", "A", "B", "C"].as_slice(), 7),
+        (["addmul", "C", "01", "64", "A", "B"].as_slice(), 3),
+        (["addmul", "C", "1", "+64", "A", "B"].as_slice(), 4),
+        (["addmul", "C", "1", "1000000000", "A", "B"].as_slice(), 4),
+        (["addmul", "C", "", "64", "--", "B"].as_slice(), 3),
     ] {
         let ended = run_on(rt.alloc(), words, LEFT, RIGHT, &AMPLE)?;
         let line = format!(in rt.alloc(); "m4lin: word {word} is not understood\n")?;
@@ -215,7 +291,7 @@ fn reads_that_fail(rt: HostRuntime) -> Result<(), Fail> {
             assert_ended(&rt, &ended, Status::Done, PRODUCT, "");
         }
     }
-    let ended = run_on(rt.alloc(), &["mul", "A", "C"], LEFT, RIGHT, &AMPLE)?;
+    let ended = run_on(rt.alloc(), &["mul", "A", "D"], LEFT, RIGHT, &AMPLE)?;
     assert_ended(&rt, &ended, Status::Read, b"", "m4lin: read failed\n");
     Ok(())
 }

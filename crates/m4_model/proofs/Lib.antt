@@ -26,3 +26,4 @@ pub mod Gf2Lemmas
 mod Examples
 mod ExampleTests
 mod ExamplesForms
+mod TextExamples

@@ -6,5 +6,8 @@ pub mod Forms
 pub mod Factors
 pub mod Step
 pub mod Text
+pub mod Bare
+pub mod Jcf
+pub mod Texts
 pub mod Words
 pub mod Outcome

@@ -1,8 +1,9 @@
 -- What a run of the program has to answer: its status and its text, from its words and the files at hand.
-use Rattle.std.specs.Prelude.{◌≡◌, ℕ, ◌+◌, ◌⊎◌, List, [], ◌∷◌, ◌++◌, length, Option, Some, None, option_map, find, bytes_eq, Ok, Err, codes, decimal}
-use Rattle.m4_model.specs.Matrix.{Matrix, product}
+use Rattle.std.specs.Prelude.{◌≡◌, ℕ, ◌+◌, ◌%◌, ◌≤◌, ◌⊎◌, List, [], ◌∷◌, ◌++◌, length, Option, Some, None, option_map, find, bytes_eq, Ok, Err, codes, decimal}
+use Rattle.m4_model.specs.Matrix.{Matrix, added, product}
+use Rattle.m4_model.specs.Shapes.{cut, replace}
 use Rattle.m4_model.specs.Text.{text, Reads, Refusal, Fault, BadAt, PastLimit, IsWithinLimits}
-use Rattle.m4_model.specs.Words.{Command, Mul, Task, job}
+use Rattle.m4_model.specs.Words.{Command, Mul, Addmul, Task, job}
 use Rattle.m4_model.specs.declared.status.Status.{Status}
 use Rattle.m4_model.specs.declared.status.Status.TheVariants.{Done, No, Words, Text, Shape, Limit, Read, Write, Memory}
 
@@ -44,15 +45,28 @@ pub record FirstMissing (stock : Stock) (names : List (List ℕ)) : Type 0 where
   pub accepted : Accepted stock before matrices
   pub missing : bytes_of stock name ≡ None
 
+-- A rectangle of so many rows and columns at this place of C begins at a word's first column, and lies within C.
+pub record HasRoom (C : Matrix) (row col rows cols : ℕ) : Type 0 where
+  pub aligned : col % 64 ≡ 0
+  pub within_rows : row + rows ≤ C.rows
+  pub within_cols : col + cols ≤ C.cols
+
 -- The operands' shapes fit the command.
 abbrev pub Fits : Command → List Matrix → Type 0
 Fits Mul (A ∷ B ∷ []) = A.cols ≡ B.rows
-Fits Mul other = ⊥
+Fits (Addmul row col) (C ∷ A ∷ B ∷ []) = (A.cols ≡ B.rows) × HasRoom C row col A.rows B.cols
+Fits command other = ⊥
+
+-- C with A B added to the rectangle of its shape at this place.
+abbrev pub with_product : Matrix → ℕ → ℕ → Matrix → Matrix → Matrix
+with_product C row col A B =
+    replace C row col (added (cut C row col (row + A.rows) (col + B.cols)) (product A B))
 
 -- R is the command's answer.
 abbrev pub IsAnswer : Command → List Matrix → Matrix → Type 0
 IsAnswer Mul (A ∷ B ∷ []) R = R ≡ product A B
-IsAnswer Mul other R = ⊥
+IsAnswer (Addmul row col) (C ∷ A ∷ B ∷ []) R = R ≡ with_product C row col A B
+IsAnswer command other R = ⊥
 
 -- The words ask for a task whose operands are all accepted, as these matrices.
 pub record Operands (words : List (List ℕ)) (stock : Stock) (command : Command) (matrices : List Matrix) : Type 0 where
