@@ -6,7 +6,7 @@ use Rattle.std.proofs.lemmas.Nat.Bits.{bit_at_and, bit_at_ones, bit_at_ones_abov
 use Rattle.std.specs.Int.Bits.{xor_zero_r}
 use Rattle.std.proofs.Math.Pow.{pow-lt}
 use Rattle.std.proofs.Math.Nat.{mod-eq_of_lt}
-use Rattle.std.proofs.lemmas.List.{length-set, get_or-set_same, get_or-set_other, get_or_past, ext_get_or}
+use Rattle.std.proofs.lemmas.List.{length-set, get_or-set_same, get_or-set_other, get_or_past}
 use Rattle.std.proofs.lemmas.Bool.{cases_eq, cases_lt, cond_both, eqb-true, eqb-false}
 use Rattle.m4_model.specs.Matrix.{row_sum}
 use Rattle.m4_model.specs.Text.{words_per_row}
@@ -142,25 +142,3 @@ bit_at-added_other w (suc zero) s i small within other =
     bit_at-xor w (1 * 2 ^ s % 2 ^ 64) i
     ∙ (ap (λ b. bit_xor (bit_at w i) b) (ap (λ v. bit_at v i) (placed-is 1 s small within) ∙ bit_at-pow_other s i other) ∙ xor_zero_r (bit_at w i))
 bit_at-added_other w (suc (suc more)) s i small within other = absurd (omega (arith, small))
-
--- a sum of rows word by word, the last one under the mask
-pub added_masked : (old now src : List ℕ) (last end : ℕ) → end + 1 ≡ length old → length now ≡ length old → length old ≡ length src
-    → ((i : ℕ) → i < end → get_or now i 0 ≡ bit_xor (get_or old i 0) (get_or src i 0))
-    → ((i : ℕ) → end ≤ i → get_or now i 0 ≡ get_or old i 0)
-    → set now end (bit_xor (get_or now end 0) (bit_and (get_or src end 0) last)) ≡ row_sum old (masked src last)
-added_masked old now src last end ends long same added kept =
-    let e : length src - 1 ≡ end = omega arith in
-    let longer : length old ≡ length (masked src last) = same ∙ sym (length-masked src last) in
-    let heights : length (set now end (bit_xor (get_or now end 0) (bit_and (get_or src end 0) last))) ≡ length (row_sum old (masked src last)) =
-    length-set now end _ ∙ (long ∙ sym (length-row_sum old (masked src last))) in
-    ext_get_or 0 _ _ heights (λ i within.
-    let inside : i < length old = omega (arith, length-set now end (bit_xor (get_or now end 0) (bit_and (get_or src end 0) last)), within) in
-    rw (get_or-row_sum old (masked src last) i longer, e)
-    (elim (cases_eq i end) [
-      | inl here ↦
-          rw here (get_or-set_same now end _ 0 (omega arith)
-          ∙ (rw (kept end (omega arith), get_or-set_same src end (bit_and (get_or src end 0) last) 0 (omega arith)) refl))
-      | inr away ↦
-          get_or-set_other now end i _ 0 away
-          ∙ (added i (omega (arith, away)) ∙ ap (λ w. bit_xor (get_or old i 0) w) (sym (get_or-set_other src end i _ 0 away)))
-    ]))

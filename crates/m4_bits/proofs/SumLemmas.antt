@@ -83,6 +83,19 @@ added-more old now xs k n m all same room next so_far =
       kept = λ i past. get_or-put_chunk_above k now lanes i 0 (omega (arith, long, past, next)) ∙ so_far.kept i (omega (arith, past, next));
     }
 
+-- one more word is added
+pub added-word : (old now : List ℕ) (xs : List (List ℕ)) (k m : ℕ) → k < length now → m ≡ k + 1 → Added old now xs k
+    → Added old (set now k (word_added (get_or now k 0) xs k)) xs m
+added-word old now xs k m within next so_far = record {
+  added = λ i below. elim (cases_eq i k) [
+    | inl here ↦
+        rw here (get_or-set_same now k (word_added (get_or now k 0) xs k) 0 within ∙ ap (λ w. word_added w xs k) (so_far.kept k (omega arith)))
+    | inr away ↦ get_or-set_other now k i (word_added (get_or now k 0) xs k) 0 away ∙ so_far.added i (omega (arith, below, next, away))
+  ];
+  kept = λ i past.
+      get_or-set_other now k i (word_added (get_or now k 0) xs k) 0 (λ is. omega (arith, is, past, next)) ∙ so_far.kept i (omega (arith, past, next));
+}
+
 pub length-rows_added : (row : List ℕ) (xs : List (List ℕ)) (mask : ℕ) → length (rows_added row xs mask) ≡ length row
 length-rows_added row [] mask = refl
 length-rows_added row (x ∷ xs) mask =

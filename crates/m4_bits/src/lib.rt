@@ -14,7 +14,10 @@ mod rows;
 mod transpose;
 
 pub use digits::{put_digits, word_of_digits};
-pub use rows::{clear, copy_into, swap_into, xor_from_column, xor_from2, xor_from4, xor_from8};
+pub use rows::{
+    clear, copy_into, swap_into, xor_from_column, xor_from2, xor_from3, xor_from4, xor_from5,
+    xor_from6, xor_from7, xor_from8, xor_into,
+};
 pub use transpose::transpose_64;
 
 /// How many words a row of `cols` columns takes.
@@ -89,27 +92,11 @@ fn add_bit(row: &mut [u64], j: u32, change: u64)
     row[(j / 64) as usize] ^= change << (j % 64);
 }
 
-/// Adds the row `src` to the row `dst` of as many words, in one pass. Of the last word of `src` only the bits of `last`
-/// are added, so that with `last = mask(cols)` the bits past the last column stay as they were.
-pub fn xor_into(dst: &mut [u64], src: &[u64], last: u64)
-    requires { length dst.old ≡ length src.now }
-    ensures { dst.new ≡ row_sum dst.old (masked src.now last) }
-{
-    if dst.is_empty() {
-        return;
-    }
-    let end = dst.len() - 1;
-    for k in 0..end {
-        dst[k] ^= src[k];
-    }
-    dst[end] ^= src[end] & last;
-}
-
 #[cfg(test)]
 mod tests {
     use super::{
         clear, copy_into, get_bit, mask, put_bit, swap_bits, swap_into, words_for, xor_from_column,
-        xor_from2, xor_from4, xor_from8, xor_into,
+        xor_from2, xor_from3, xor_from4, xor_from5, xor_from6, xor_from7, xor_from8, xor_into,
     };
     use std::process::Abort;
 
@@ -169,53 +156,54 @@ mod tests {
         assert_eq!(rt; row, [0, 1]);
     }
 
+    /// The bits of one row and of the first 1, 2 and up to 8 rows that are added to it.
+    const FACTORS: [u64; 8] = [
+        0x81,
+        0x4081,
+        0x0020_4081,
+        0x1020_4081,
+        0x0008_1020_4081,
+        0x0408_1020_4081,
+        0x0002_0408_1020_4081,
+        0x0102_0408_1020_4081,
+    ];
+
     /// Rows of `n` words hold small numbers side by side, which one sum collects: row `t` at bit `7 t`.
     fn rows_are_added<R: Abort>(rt: &R, n: usize)
         requires { n ≤ 17 }
     {
         let (mut one, mut two) = (counted(1), counted(1));
-        let (mut four, mut eight) = (counted(1), counted(1));
-        let (a, b, c, d) = (
-            counted(1 << 7),
-            counted(1 << 14),
-            counted(1 << 21),
-            counted(1 << 28),
-        );
-        let (e, f, g, h) = (
-            counted(1 << 35),
-            counted(1 << 42),
-            counted(1 << 49),
-            counted(1 << 56),
-        );
+        let (mut three, mut four) = (counted(1), counted(1));
+        let (mut five, mut six) = (counted(1), counted(1));
+        let (mut seven, mut eight) = (counted(1), counted(1));
+        let (a, b) = (&counted(1 << 7)[..n], &counted(1 << 14)[..n]);
+        let (c, d) = (&counted(1 << 21)[..n], &counted(1 << 28)[..n]);
+        let (e, f) = (&counted(1 << 35)[..n], &counted(1 << 42)[..n]);
+        let (g, h) = (&counted(1 << 49)[..n], &counted(1 << 56)[..n]);
         let last = mask(14);
-        xor_into(&mut one[..n], &a[..n], last);
-        xor_from2(&mut two[..n], &a[..n], &b[..n], last);
-        xor_from4(&mut four[..n], &a[..n], &b[..n], &c[..n], &d[..n], last);
-        xor_from8(
-            &mut eight[..n],
-            &a[..n],
-            &b[..n],
-            &c[..n],
-            &d[..n],
-            &e[..n],
-            &f[..n],
-            &g[..n],
-            &h[..n],
-            last,
-        );
+        xor_into(&mut one[..n], a, last);
+        xor_from2(&mut two[..n], a, b, last);
+        xor_from3(&mut three[..n], a, b, c, last);
+        xor_from4(&mut four[..n], a, b, c, d, last);
+        xor_from5(&mut five[..n], a, b, c, d, e, last);
+        xor_from6(&mut six[..n], a, b, c, d, e, f, last);
+        xor_from7(&mut seven[..n], a, b, c, d, e, f, g, last);
+        xor_from8(&mut eight[..n], a, b, c, d, e, f, g, h, last);
         for k in 0..17 {
             let word = k as u64 + 1;
-            let (of_one, of_two, of_four, of_eight) = if k + 1 < n {
-                (0x81, 0x4081, 0x10204081, 0x0102040810204081)
+            let sums = [
+                one[k], two[k], three[k], four[k], five[k], six[k], seven[k], eight[k],
+            ];
+            let factors = if k + 1 < n {
+                FACTORS
             } else if k + 1 == n {
-                (0x81, 0x81, 0x81, 0x81)
+                [0x81; 8]
             } else {
-                (1, 1, 1, 1)
+                [1; 8]
             };
-            assert_eq!(rt; one[k], word.wrapping_mul(of_one));
-            assert_eq!(rt; two[k], word.wrapping_mul(of_two));
-            assert_eq!(rt; four[k], word.wrapping_mul(of_four));
-            assert_eq!(rt; eight[k], word.wrapping_mul(of_eight));
+            for count in 0..8 {
+                assert_eq!(rt; sums[count], word.wrapping_mul(factors[count]));
+            }
         }
     }
 

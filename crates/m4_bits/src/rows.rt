@@ -4,21 +4,37 @@ ghost use Rattle.std.specs.Prelude.{◌≡◌, ℕ, ◌<◌, ◌≤◌, [], ◌�
 ghost use Rattle.m4_model.specs.Matrix.{row_sum};
 ghost use Rattle.m4_bits.specs.Bits.{bit, masked, merged, overlaid, rows_added};
 
-use super::xor_into;
 use std::simd::prelude::*;
 
-// Two words of `dst` from word `at` on, with those of each source added.
-macro_rules! sum_at {
-    ($at:ident, $dst:ident, $($src:ident),+) => {
-        u64x2::from_slice(&$dst[$at..]) $(^ u64x2::from_slice(&$src[$at..]))+
+// Adds rows to `dst`, in one pass, eight words at a time, and the rest one by one. Of the last word of each only the bits of
+// `last` are added.
+macro_rules! add_rows {
+    ($dst:ident, $last:ident, $($src:ident),+) => {
+        if $dst.is_empty() {
+            return;
+        }
+        let end = $dst.len() - 1;
+        let before = $dst[end];
+        let blocks = $dst.len() / 8;
+        for block in 0..blocks {
+            let at = block * 8;
+            let sum = u64x8::from_slice(&$dst[at..]) $(^ u64x8::from_slice(&$src[at..]))+;
+            sum.copy_to_slice(&mut $dst[at..]);
+        }
+        for k in blocks * 8..end {
+            $dst[k] = $dst[k] $(^ $src[k])+;
+        }
+        $dst[end] = before $(^ ($src[end] & $last))+;
     };
 }
 
-// One word with those of each source added, of which only the bits of `last` count.
-macro_rules! last_sum {
-    ($before:ident, $end:ident, $last:ident, $($src:ident),+) => {
-        $before $(^ ($src[$end] & $last))+
-    };
+/// Adds the row `src` to the row `dst` of as many words, in one pass. Of the last word of `src` only the bits of `last`
+/// are added, so that with `last = mask(cols)` the bits past the last column stay as they were.
+pub fn xor_into(dst: &mut [u64], src: &[u64], last: u64)
+    requires { length dst.old ≡ length src.now }
+    ensures { dst.new ≡ row_sum dst.old (masked src.now last) }
+{
+    add_rows!(dst, last, src);
 }
 
 /// Adds two rows to the row `dst` of as many words, in one pass. Of their last words only the bits of `last` are added.
@@ -26,17 +42,15 @@ pub fn xor_from2(dst: &mut [u64], a: &[u64], b: &[u64], last: u64)
     requires { (length a.now ≡ length dst.old) × (length b.now ≡ length dst.old) }
     ensures { dst.new ≡ rows_added dst.old (a.now ∷ b.now ∷ []) last }
 {
-    if dst.is_empty() {
-        return;
-    }
-    let end = dst.len() - 1;
-    let before = dst[end];
-    for pair in 0..dst.len() / 2 {
-        let at = pair * 2;
-        let sum = sum_at!(at, dst, a, b);
-        sum.copy_to_slice(&mut dst[at..]);
-    }
-    dst[end] = last_sum!(before, end, last, a, b);
+    add_rows!(dst, last, a, b);
+}
+
+/// Adds three rows to the row `dst` of as many words, in one pass. Of their last words only the bits of `last` are added.
+pub fn xor_from3(dst: &mut [u64], a: &[u64], b: &[u64], c: &[u64], last: u64)
+    requires { (length a.now ≡ length dst.old) × (length b.now ≡ length dst.old) × (length c.now ≡ length dst.old) }
+    ensures { dst.new ≡ rows_added dst.old (a.now ∷ b.now ∷ c.now ∷ []) last }
+{
+    add_rows!(dst, last, a, b, c);
 }
 
 /// Adds four rows to the row `dst` of as many words, in one pass. Of their last words only the bits of `last` are added.
@@ -44,17 +58,50 @@ pub fn xor_from4(dst: &mut [u64], a: &[u64], b: &[u64], c: &[u64], d: &[u64], la
     requires { (length a.now ≡ length dst.old) × (length b.now ≡ length dst.old) × (length c.now ≡ length dst.old) × (length d.now ≡ length dst.old) }
     ensures { dst.new ≡ rows_added dst.old (a.now ∷ b.now ∷ c.now ∷ d.now ∷ []) last }
 {
-    if dst.is_empty() {
-        return;
-    }
-    let end = dst.len() - 1;
-    let before = dst[end];
-    for pair in 0..dst.len() / 2 {
-        let at = pair * 2;
-        let sum = sum_at!(at, dst, a, b, c, d);
-        sum.copy_to_slice(&mut dst[at..]);
-    }
-    dst[end] = last_sum!(before, end, last, a, b, c, d);
+    add_rows!(dst, last, a, b, c, d);
+}
+
+/// Adds five rows to the row `dst` of as many words, in one pass. Of their last words only the bits of `last` are added.
+pub fn xor_from5(dst: &mut [u64], a: &[u64], b: &[u64], c: &[u64], d: &[u64], e: &[u64], last: u64)
+    requires { (length a.now ≡ length dst.old) × (length b.now ≡ length dst.old) × (length c.now ≡ length dst.old) × (length d.now ≡ length dst.old) × (length e.now ≡ length dst.old) }
+    ensures { dst.new ≡ rows_added dst.old (a.now ∷ b.now ∷ c.now ∷ d.now ∷ e.now ∷ []) last }
+{
+    add_rows!(dst, last, a, b, c, d, e);
+}
+
+/// Adds six rows to the row `dst` of as many words, in one pass. Of their last words only the bits of `last` are added.
+pub fn xor_from6(
+    dst: &mut [u64],
+    a: &[u64],
+    b: &[u64],
+    c: &[u64],
+    d: &[u64],
+    e: &[u64],
+    f: &[u64],
+    last: u64,
+)
+    requires { (length a.now ≡ length dst.old) × (length b.now ≡ length dst.old) × (length c.now ≡ length dst.old) × (length d.now ≡ length dst.old) × (length e.now ≡ length dst.old) × (length f.now ≡ length dst.old) }
+    ensures { dst.new ≡ rows_added dst.old (a.now ∷ b.now ∷ c.now ∷ d.now ∷ e.now ∷ f.now ∷ []) last }
+{
+    add_rows!(dst, last, a, b, c, d, e, f);
+}
+
+/// Adds seven rows to the row `dst` of as many words, in one pass. Of their last words only the bits of `last` are added.
+pub fn xor_from7(
+    dst: &mut [u64],
+    a: &[u64],
+    b: &[u64],
+    c: &[u64],
+    d: &[u64],
+    e: &[u64],
+    f: &[u64],
+    g: &[u64],
+    last: u64,
+)
+    requires { (length a.now ≡ length dst.old) × (length b.now ≡ length dst.old) × (length c.now ≡ length dst.old) × (length d.now ≡ length dst.old) × (length e.now ≡ length dst.old) × (length f.now ≡ length dst.old) × (length g.now ≡ length dst.old) }
+    ensures { dst.new ≡ rows_added dst.old (a.now ∷ b.now ∷ c.now ∷ d.now ∷ e.now ∷ f.now ∷ g.now ∷ []) last }
+{
+    add_rows!(dst, last, a, b, c, d, e, f, g);
 }
 
 /// Adds eight rows to the row `dst` of as many words, in one pass. Of their last words only the bits of `last` are added.
@@ -73,17 +120,7 @@ pub fn xor_from8(
     requires { (length a.now ≡ length dst.old) × (length b.now ≡ length dst.old) × (length c.now ≡ length dst.old) × (length d.now ≡ length dst.old) × (length e.now ≡ length dst.old) × (length f.now ≡ length dst.old) × (length g.now ≡ length dst.old) × (length h.now ≡ length dst.old) }
     ensures { dst.new ≡ rows_added dst.old (a.now ∷ b.now ∷ c.now ∷ d.now ∷ e.now ∷ f.now ∷ g.now ∷ h.now ∷ []) last }
 {
-    if dst.is_empty() {
-        return;
-    }
-    let end = dst.len() - 1;
-    let before = dst[end];
-    for pair in 0..dst.len() / 2 {
-        let at = pair * 2;
-        let sum = sum_at!(at, dst, a, b, c, d, e, f, g, h);
-        sum.copy_to_slice(&mut dst[at..]);
-    }
-    dst[end] = last_sum!(before, end, last, a, b, c, d, e, f, g, h);
+    add_rows!(dst, last, a, b, c, d, e, f, g, h);
 }
 
 /// Adds the row `src` to the row `dst` of as many words, from column `first` on. Of the last word only the bits of

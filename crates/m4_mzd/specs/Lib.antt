@@ -1,5 +1,6 @@
 pub mod Around
 pub mod Held
+pub mod Home
 pub mod Quarters
 pub mod Rectangles
 pub mod Reach

@@ -5,6 +5,7 @@
 mod add_mul;
 mod mzd;
 mod rect;
+mod steps;
 #[cfg(test)]
 mod tests;
 mod win;
@@ -14,5 +15,6 @@ mod word;
 pub use add_mul::{AddMul, Shape};
 pub use mzd::{Around, Home, Mzd};
 pub use rect::{Rect, RectFault};
+pub use steps::Steps;
 pub use win::Win;
 pub use win_mut::WinMut;

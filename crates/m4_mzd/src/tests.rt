@@ -1,15 +1,17 @@
 //! Windows on matrices: parts that are written at the same time, and what stays around them.
 
-ghost use Rattle.std.specs.Prelude.{◌≡◌, ◌-◌, ◌%◌, ◌<◌, ◌≤◌, length, IfOk};
+ghost use Rattle.std.specs.Prelude.{◌≡◌, ◌+◌, ◌-◌, ◌%◌, ◌<◌, ◌≤◌, IfOk};
 ghost use Rattle.std.specs.List.{All};
 ghost use Rattle.m4_model.specs.Field.{gf2};
 ghost use Rattle.m4_model.specs.Matrix.{zero_matrix};
 ghost use Rattle.m4_model.specs.Shapes.{replace};
 ghost use Rattle.m4_mzd.specs.Rectangles.{IsInside};
 
-use crate::{Mzd, Rect, RectFault};
+use crate::{Mzd, Rect, RectFault, Steps};
 use m4_model::NoMemory;
 use std::alloc::Global;
+use std::marker::Brand;
+use std::sync::ledger::{Blank, Ledger};
 use std::test::Fail;
 
 // Whether the ones of a row are those between the two columns.
@@ -151,38 +153,68 @@ fn crosses<T: Send>(_: &T) {}
 
 fn is_shared<T: Send + Sync>(_: &T) {}
 
-// Adds rows of `from` to row 0, in as few passes as there are kernels for.
-fn add_first(m: &mut Mzd, from: &Mzd, numbers: &[u32])
+// Adds `T` rows of `from` to row 0.
+fn add_first<const T: usize, L: Ledger>(
+    m: &mut Mzd,
+    from: &Mzd,
+    numbers: &[u32; T],
+    steps: &mut Steps<L>,
+)
+    requires some { 1 ≤ T }
+    requires few { T ≤ 8 }
     requires rows { 0 < m.old.rows }
     requires same_cols { from.now.cols ≡ m.old.cols }
-    requires few { length numbers.now ≤ 8 }
     requires in_from { All (λ s. s < from.now.rows) numbers.now }
     ensures rows { m.new.rows ≡ m.old.rows }
     ensures cols { m.new.cols ≡ m.old.cols }
+    ensures ticks { steps.new ≡ steps.old + T }
 {
     let (mut whole, home) = m.all_mut();
     crosses(&whole);
     is_shared(&from.all());
-    whole.add_rows(0, &from.all(), numbers);
+    whole.add_rows(0, &from.all(), numbers, steps);
     m.put_all(whole, home);
 }
 
-// Adds the first `count` rows of the identity to a row of zeros.
-fn adds_first(alloc: Global, count: usize) -> Result<bool, NoMemory>
-    requires { count ≤ 8 }
+// Adds the first `T` rows of the identity to a row of zeros.
+fn adds_first<const T: usize, L: Ledger>(
+    alloc: Global,
+    numbers: &[u32; T],
+    steps: &mut Steps<L>,
+) -> Result<bool, NoMemory>
+    requires some { 1 ≤ T }
+    requires few { T ≤ 8 }
+    requires small { All (λ s. s < 130) numbers.now }
 {
-    let numbers: [u32; 8] = [0, 1, 2, 3, 4, 5, 6, 7];
     let from = Mzd::identity(alloc, 130)?;
     let mut m = Mzd::zeros(alloc, 1, 130)?;
-    add_first(&mut m, &from, &numbers[..count]);
-    Ok(ones_between(&m, 0, 0, count as u32))
+    add_first(&mut m, &from, numbers, steps);
+    Ok(ones_between(&m, 0, 0, T as u32))
+}
+
+// Whether each number of rows is added.
+fn adds_each<L: Ledger>(alloc: Global, blank: Blank) -> Result<bool, NoMemory>
+    requires name { blank.name ≡ L.name }
+    requires parts { blank.parts ≡ L.parts }
+    requires one { blank.parts ≡ 1 }
+{
+    let mut steps = Steps::<L>::new(blank);
+    let up_to_four = adds_first(alloc, &[0], &mut steps)?
+        && adds_first(alloc, &[1, 0], &mut steps)?
+        && adds_first(alloc, &[0, 1, 2], &mut steps)?
+        && adds_first(alloc, &[3, 1, 2, 0], &mut steps)?;
+    Ok(
+        up_to_four
+            && adds_first(alloc, &[0, 1, 2, 3, 4], &mut steps)?
+            && adds_first(alloc, &[0, 1, 5, 3, 4, 2], &mut steps)?
+            && adds_first(alloc, &[0, 1, 2, 3, 4, 5, 6], &mut steps)?
+            && adds_first(alloc, &[7, 6, 5, 4, 3, 2, 1, 0], &mut steps)?,
+    )
 }
 
 #[test]
 fn several_rows_are_added(rt: HostRuntime) -> Result<(), Fail> {
-    for count in 0..9 {
-        assert!(rt; adds_first(rt.alloc(), count)?);
-    }
+    assert!(rt; adds_each::<Brand>(rt.alloc(), Blank::new(1))?);
     Ok(())
 }
 
@@ -214,25 +246,29 @@ fn rectangles_are_checked(rt: HostRuntime) {
 #[test]
 fn a_row_is_added_between_narrow_parts(rt: HostRuntime) -> Result<(), Fail> {
     let mut m = ones(rt.alloc(), 2, 130)?;
-    add_first_columns(&mut m);
+    add_first_columns::<Brand>(&mut m, Blank::new(1));
     assert!(rt; ones_between(&m, 0, 65, 130));
     assert!(rt; ones_between(&m, 1, 0, 130));
     Ok(())
 }
 
 // Adds row 1 to row 0 in the first 65 columns.
-fn add_first_columns(m: &mut Mzd)
+fn add_first_columns<L: Ledger>(m: &mut Mzd, blank: Blank)
+    requires name { blank.name ≡ L.name }
+    requires parts { blank.parts ≡ L.parts }
+    requires one { blank.parts ≡ 1 }
     requires rows { m.old.rows ≡ 2 }
     requires cols { m.old.cols ≡ 130 }
     ensures rows { m.new.rows ≡ 2 }
     ensures cols { m.new.cols ≡ 130 }
 {
+    let mut steps = Steps::<L>::new(blank);
     let (whole, home) = m.all_mut();
     let (left, right) = whole.split_cols(128);
     let (above, below) = left.split_rows(1);
     let mut above = above.narrow(65);
     let below = below.narrow(65);
-    above.add_row(0, &below.see(), 0);
+    above.add_row(0, &below.see(), 0, &mut steps);
     let left = above.widen(128).join_rows(below.widen(128));
     m.put_all(left.join_cols(right), home);
 }

@@ -4,7 +4,7 @@ ghost use Rattle.std.specs.Prelude.{◌≡◌, ◌%◌};
 ghost use Rattle.m4_model.specs.Matrix.{Matrix};
 ghost use Rattle.m4_model.specs.Shapes.{cut, replace};
 ghost use Rattle.m4_mzd.specs.declared.rect.Rect.{Rect};
-ghost use Rattle.m4_mzd.specs.Window.{content};
+ghost use Rattle.m4_mzd.specs.Window.{content, showing};
 ghost use Rattle.m4_mzd.specs.Rectangles.{IsInside};
 ghost use Rattle.m4_mzd.specs.Around.{IsAround, Fits};
 
@@ -16,12 +16,13 @@ use m4_bits::words_for;
 
 impl Mzd {
     /// Takes a rectangle out as a window for writing, with what lies around it, and leaves a matrix of no rows and no
-    /// columns. The window can't be let go: `put_win` takes it back.
+    /// columns. The window can't be let go: `put_win` takes it back, whatever matrix it shows by then.
     pub fn win_mut(&mut self, rect: Rect) -> (WinMut, Around)
         requires inside { IsInside rect self.old.rows self.old.cols }
         requires whole_words { rect.c0 % 64 ≡ 0 }
         ensures content { content result.0 ≡ cut self.old rect.r0 rect.c0 rect.r1 rect.c1 }
         ensures around { IsAround result.1 result.0 rect self.old }
+        ensures whatever_it_shows { (B : Matrix) → IsAround result.1 (showing result.0 B) rect self.old }
     {
         let cols = self.cols;
         let (words, storage) = self.words.take();

@@ -4,7 +4,8 @@ ghost use Rattle.std.specs.Prelude.{◌≡◌, ◌%◌};
 ghost use Rattle.m4_model.specs.Shapes.{cut};
 ghost use Rattle.m4_mzd.specs.Window.{content};
 ghost use Rattle.m4_mzd.specs.Seen.{shown};
-ghost use Rattle.m4_mzd.specs.Held.{IsPadded, words_of};
+ghost use Rattle.m4_mzd.specs.Held.{IsPadded};
+ghost use Rattle.m4_mzd.specs.Home.{IsHomeOf};
 ghost use Rattle.m4_mzd.specs.Rectangles.{IsInside};
 
 use super::Mzd;
@@ -46,7 +47,7 @@ impl Mzd {
     /// of no rows and no columns. The window can't be let go: `put_all` takes it back.
     pub fn all_mut(&mut self) -> (WinMut, Home)
         ensures content { content result.0 ≡ self.old }
-        ensures home { result.1.storage ≡ words_of result.0 }
+        ensures home { IsHomeOf result.1 result.0 }
         ensures padded { IsPadded result.0 }
     {
         let (words, storage) = self.words.take();
@@ -59,7 +60,7 @@ impl Mzd {
     /// Takes a window back that was taken out whole, whatever its entries are by now. The matrix is then what the window
     /// holds.
     pub fn put_all(&mut self, all: WinMut, home: Home)
-        requires home { home.storage ≡ words_of all }
+        requires home { IsHomeOf home all }
         requires padded { IsPadded all }
         ensures { self.new ≡ content all }
     {

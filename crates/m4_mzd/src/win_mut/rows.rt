@@ -1,6 +1,6 @@
 //! Whole rows of a window: they are added, copied, swapped and cleared in whole words.
 
-ghost use Rattle.std.specs.Prelude.{◌≡◌, ◌<◌, ◌≤◌, replicate};
+ghost use Rattle.std.specs.Prelude.{◌≡◌, ◌+◌, ◌<◌, ◌≤◌, replicate};
 ghost use Rattle.m4_model.specs.Field.{gf2};
 ghost use Rattle.m4_model.specs.Matrix.{row, row_sum, with_row, zero_matrix};
 ghost use Rattle.m4_mzd.specs.Window.{content, showing};
@@ -8,18 +8,22 @@ ghost use Rattle.m4_mzd.specs.Seen.{shown};
 ghost use Rattle.m4_mzd.specs.Rows.{sum_from};
 
 use super::WinMut;
+use crate::steps::Steps;
 use crate::win::Win;
 use m4_bits::{clear, copy_into, mask, swap_into, xor_from_column, xor_into};
+use std::sync::ledger::Ledger;
 
 impl WinMut {
-    /// Adds row `s` of `from`, a window of as many columns, to row `r`. All else stays.
+    /// Adds row `s` of `from`, a window of as many columns, to row `r`. All else stays. Takes one step.
     #[inline]
-    pub fn add_row(&mut self, r: u32, from: &Win, s: u32)
+    pub fn add_row<L: Ledger>(&mut self, r: u32, from: &Win, s: u32, steps: &mut Steps<L>)
         requires in_rows { r < self.old.rows }
         requires in_from { s < (shown from.now).rows }
         requires same_cols { (shown from.now).cols ≡ self.old.cols }
-        ensures { self.new ≡ showing self.old (with_row (content self.old) r (row_sum (row (content self.old) r) (row (shown from.now) s))) }
+        ensures row { self.new ≡ showing self.old (with_row (content self.old) r (row_sum (row (content self.old) r) (row (shown from.now) s))) }
+        ensures ticks { steps.new ≡ steps.old + 1 }
     {
+        steps.tick();
         let last = mask(self.cols);
         let source = from.view.row(s as usize);
         xor_into(self.words.row_mut(r as usize), source, last);

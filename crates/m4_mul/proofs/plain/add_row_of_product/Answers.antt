@@ -7,19 +7,19 @@ use Rattle.m4_mul.proofs.plain.add_row_of_product.Goals.{then-get, else-get}
 use Rattle.m4_mul.proofs.plain.add_row_of_product.Goals as goal
 
 pub loop-t-init : goal.loop-t-init
-loop-t-init c =
+loop-t-init g c =
     let W = c.args.c.now in
     ap (showing W)
     (with_terms-none (content W) (shown c.args.a.now) (shown c.args.b.now) c.args.i c.cols-width.ensures.shape.matrix c.requires.in_rows (omega (arith, c.requires.cols)))
 
 pub add_row-requires-clause-in_rows : goal.add_row-requires-clause-in_rows
-add_row-requires-clause-in_rows c = rw c.loop-t.invariant c.requires.in_rows
+add_row-requires-clause-in_rows g c = rw c.loop-t.invariant c.requires.in_rows
 
 pub add_row-requires-clause-same_cols : goal.add_row-requires-clause-same_cols
-add_row-requires-clause-same_cols c = rw c.loop-t.invariant c.requires.cols
+add_row-requires-clause-same_cols g c = rw c.loop-t.invariant c.requires.cols
 
 pub loop-t-preserved : goal.loop-t-preserved
-loop-t-preserved c =
+loop-t-preserved g c =
     let W = c.args.c.now in
     let A = shown c.args.a.now in
     let B = shown c.args.b.now in
@@ -28,7 +28,7 @@ loop-t-preserved c =
     let below : t < B.rows = omega arith in
     elim c.if-get.branch [
       | then-get w ↦
-          w.c-is ∙ (w.add_row.ensures
+          w.c-is ∙ (w.add_row.ensures.row
           ∙ (ap (λ (L : Window). showing L (with_row (content L) i (row_sum (row (content L) i) (row B t)))) c.loop-t.invariant
           ∙ ap (showing W)
           (with_terms-one (content W) A B i t c.cols-width.ensures.shape.matrix c.requires.in_rows (omega (arith, c.requires.cols)) refl refl c.rows-t-end.ensures.matrix below (c.get.ensures.one.0 w.if-get.true))))
@@ -39,7 +39,7 @@ loop-t-preserved c =
     ]
 
 pub returns : goal.returns
-returns c =
+returns g c =
     c.loop-t.invariant
     ∙ ap (showing c.args.c.now)
     (with_terms-all (content c.args.c.now) (shown c.args.a.now) (shown c.args.b.now) c.args.i c.loop-t.t (rw c.requires.rows c.requires.in_rows) (omega (arith, c.requires.inner)))

@@ -5,4 +5,4 @@ use Rattle.m4_mul.proofs.PlainLemmas.{with_terms}
 use Rattle.m4_mul.proofs.plain.add_row_of_product.Given as goal
 
 abbrev pub invariant-loop-t : goal.invariant-loop-t
-invariant-loop-t l = l.c ≡ showing l.fn.c (with_terms (content l.fn.c) l.i (shown l.a) (shown l.b) l.t)
+invariant-loop-t g l = l.c ≡ showing l.fn.c (with_terms (content l.fn.c) l.i (shown l.a) (shown l.b) l.t)

@@ -1,8 +1,4 @@
-use Rattle.std.proofs.Common.{◌≡◌}
-use Rattle.m4_mzd.specs.Window.{content, showing}
-use Rattle.m4_mzd.specs.Seen.{shown}
-use Rattle.m4_mul.proofs.PlainLemmas.{added_rows}
 use Rattle.m4_mul.proofs.plain.PlainAddMul.addmul.Given as goal
 
-abbrev pub invariant-loop-i : goal.invariant-loop-i
-invariant-loop-i l = l.c ≡ showing l.fn.c (added_rows (content l.fn.c) (shown l.a) (shown l.b) l.i)
+abbrev pub ghosts-add_product : goal.ghosts-add_product
+ghosts-add_product a = record { name = a.blank.name; parts = a.blank.parts }

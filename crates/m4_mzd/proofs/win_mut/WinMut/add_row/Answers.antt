@@ -3,11 +3,11 @@ use Rattle.m4_mzd.proofs.WriteLemmas.{row_written, holds_own, holds_seen, wrote_
 use Rattle.m4_mzd.proofs.win_mut.WinMut.add_row.Goals as goal
 
 pub invariant_of-self : goal.invariant_of-self
-invariant_of-self c =
+invariant_of-self g c =
     framed_row c.self.inside.words c.self.inside.cols c.args.r c.xor_into.new.dst c.args.self.now c.self.view_is c.self.invariant c.requires.in_rows
 
-pub returns : goal.returns
-returns c =
+pub returns-clause-row : goal.returns-clause-row
+returns-clause-row g c =
     let v = c.self.inside.words in
     let cols = c.self.inside.cols in
     let w = c.args.self.now in

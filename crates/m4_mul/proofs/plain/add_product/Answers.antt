@@ -3,15 +3,15 @@ use Rattle.m4_model.specs.Matrix.{product, row, row_sum, with_row}
 use Rattle.m4_mzd.specs.Window.{Window, content, showing}
 use Rattle.m4_mzd.specs.Seen.{shown}
 use Rattle.m4_mul.proofs.PlainLemmas.{added_rows-none, added_rows-more, added_rows-all}
-use Rattle.m4_mul.proofs.plain.PlainAddMul.addmul.Goals as goal
+use Rattle.m4_mul.proofs.plain.add_product.Goals as goal
 
 pub loop-i-init : goal.loop-i-init
-loop-i-init c =
+loop-i-init g c =
     let W = c.args.c.now in
     ap (showing W) (added_rows-none (content W) (shown c.args.a.now) (shown c.args.b.now) refl c.rows-i-end.ensures.shape.matrix)
 
 pub loop-i-preserved : goal.loop-i-preserved
-loop-i-preserved c =
+loop-i-preserved g c =
     let W = c.args.c.now in
     let A = shown c.args.a.now in
     let B = shown c.args.b.now in
@@ -20,8 +20,8 @@ loop-i-preserved c =
     ∙ (ap (λ (L : Window). showing L (with_row (content L) i (row_sum (row (content L) i) (row (product A B) i)))) c.loop-i.invariant
     ∙ ap (showing W) (added_rows-more (content W) A B i (omega arith) c.requires.rows c.requires.cols))
 
-pub returns-clause-sum : goal.returns-clause-sum
-returns-clause-sum c =
+pub returns : goal.returns
+returns g c =
     c.loop-i.invariant
     ∙ ap (showing c.args.c.now)
     (added_rows-all (content c.args.c.now) (shown c.args.a.now) (shown c.args.b.now) c.loop-i.i refl c.requires.rows c.requires.cols (omega arith))

@@ -1,0 +1,9 @@
+use Rattle.std.proofs.Common.{◌*◌, [], ◌∷◌}
+use Rattle.m4_bits.proofs.SumLemmas.{Added}
+use Rattle.m4_bits.proofs.rows.xor_into.Given as goal
+
+abbrev pub invariant-loop-block : goal.invariant-loop-block
+invariant-loop-block l = Added l.fn.dst l.dst (l.src ∷ []) (l.block * 8)
+
+abbrev pub invariant-loop-k : goal.invariant-loop-k
+invariant-loop-k l = Added l.fn.dst l.dst (l.src ∷ []) l.k
