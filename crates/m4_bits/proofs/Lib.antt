@@ -5,3 +5,4 @@ pub mod ColumnLemmas
 pub mod DigitsLemmas
 pub mod TransposeLemmas
 pub mod EightLemmas
+pub mod TakeLemmas

@@ -11,6 +11,7 @@ ghost use Rattle.m4_bits.specs.Bits.{bit, last_bits, masked};
 
 mod digits;
 mod rows;
+mod take;
 mod transpose;
 
 pub use digits::{put_digits, word_of_digits};
@@ -18,6 +19,7 @@ pub use rows::{
     clear, copy_into, swap_into, xor_from_column, xor_from2, xor_from3, xor_from4, xor_from5,
     xor_from6, xor_from7, xor_from8, xor_into,
 };
+pub use take::take_bits;
 pub use transpose::transpose_64;
 
 /// How many words a row of `cols` columns takes.

@@ -123,6 +123,18 @@ fn copies_and_windows_are_read(rt: HostRuntime) -> Result<(), Fail> {
     Ok(())
 }
 
+#[test]
+fn entries_are_read_across_a_border_of_words(rt: HostRuntime) -> Result<(), Fail> {
+    let mut m = Mzd::zeros(rt.alloc(), 1, 66)?;
+    m.put(0, 62, true);
+    m.put(0, 65, true);
+    let whole = m.all();
+    assert_eq!(rt; whole.bits(0, 62, 4), 9);
+    assert_eq!(rt; whole.bits(0, 50, 16), 1 << 12 | 1 << 15);
+    assert_eq!(rt; whole.bits(0, 66, 0), 0);
+    Ok(())
+}
+
 // Swaps the first and the last of three rows, adds the last to the second in the last columns, and clears the first.
 fn move_rows(m: &mut Mzd)
     requires rows { m.old.rows ≡ 3 }

@@ -5,7 +5,7 @@ ghost use Rattle.m4_model.specs.Text.{words_per_row};
 
 use crate::word::word_of;
 use m4_area::View;
-use m4_bits::{get_bit, words_for};
+use m4_bits::{get_bit, take_bits, words_for};
 
 /// A window for reading: a rectangle of a matrix's entries, whose first column is at the beginning of a word.
 #[derive(Clone, Copy)]
@@ -18,7 +18,7 @@ pub struct Win<'a> {
 }
 
 impl<'a> Win<'a> {
-    ghost use Rattle.std.specs.Prelude.{ℕ, ◌+◌, ◌-◌, ◌*◌, ◌/◌, ◌%◌, ◌<◌, ◌↔◌, IsTrue, if◌then◌else◌, length, slice_index, take, drop, map};
+    ghost use Rattle.std.specs.Prelude.{ℕ, ◌+◌, ◌-◌, ◌*◌, ◌/◌, ◌%◌, ◌^◌, ◌<◌, ◌≤◌, ◌↔◌, IsTrue, if◌then◌else◌, length, slice_index, take, drop, map};
     ghost use Rattle.std.specs.List.{All};
     ghost use Rattle.std.specs.Int.{bit_at};
     ghost use Rattle.m4_model.specs.Matrix.{IsMatrix, at};
@@ -57,6 +57,18 @@ impl<'a> Win<'a> {
         ensures value { at (shown self.now) r c ≡ (if result then 1 else 0) }
     {
         get_bit(self.view.row(r as usize), c)
+    }
+
+    /// The `n` entries of row `r` from column `c` on, at most 16, as a number: bit `i` is the entry in column `c + i`.
+    #[inline]
+    pub fn bits(&self, r: u32, c: u32, n: u32) -> u32
+        requires in_rows { r < (shown self.now).rows }
+        requires few { n ≤ 16 }
+        requires in_cols { c + n ≤ (shown self.now).cols }
+        ensures bits { (i : ℕ) → i < n → bit_at result i ≡ at (shown self.now) r (c + i) }
+        ensures small { result < 2 ^ n }
+    {
+        take_bits(self.view.row(r as usize), c, n)
     }
 
     /// Word `w` of row `r`: bit `j` is the entry in column `64 w + j`, and 0 past the last column.
