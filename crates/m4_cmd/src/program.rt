@@ -13,10 +13,10 @@ use crate::fault_line::line_of;
 use crate::gate::Gate;
 use crate::operand::{read_three, read_two};
 use crate::words::{Task, job_of};
-use m4_io::{Failed, Shelf, Sink, write_whole};
+use m4_io::{Shelf, Sink, write_whole};
 use m4_model::Status;
 use m4_mzd::Mzd;
-use m4_text::write_text;
+use m4_text::{WriteFault, write_text};
 use std::alloc::Global;
 
 /// Does what the words ask for: reads the operands, computes the answer, writes its text to `out`, and a line on
@@ -162,7 +162,7 @@ fn write_answer<O: Sink>(answer: &Mzd, out: &mut O) -> Status
 {
     match write_text(answer, out) {
         Ok(()) => Status::Done,
-        Err(Failed) => Status::Write,
+        Err(WriteFault::Failed) => Status::Write,
     }
 }
 

@@ -12,11 +12,11 @@ use Rattle.m4_model.specs.Texts.TextForm.{Bare}
 use Rattle.m4_model.proofs.MatrixLemmas.{IsMatrix-matrix_of}
 use Rattle.m4_text.specs.Refused.{IsRefusalIn}
 use Rattle.std.specs.Option.{is_some}
-use Rattle.m4_text.specs.Reading.{ReadsLines, AreRowsToRead, HasDigit, LacksDigit}
+use Rattle.m4_text.specs.Reading.{ReadsLines, AreRowsToRead, HasDigit, LacksDigit, entries_of}
 use Rattle.m4_text.proofs.Rows.{HasDigit-binary}
 use Rattle.m4_text.specs.Place.{GoesWrong, IsLine, IsBareOf, HasLine, IsBinaryDigit}
 use Rattle.m4_text.proofs.Fronts.{IsPrefixFree, IsPrefixFree-same_length, IsLongest-from_next, IsLongest-append, Begins-take, Joined, GoesWrong-same, shorter_front, no_front}
-use Rattle.m4_text.proofs.Lines.{length-line, digit_in_line, end_of_line, begins_line, line_read, entries_of}
+use Rattle.m4_text.proofs.Lines.{length-line, digit_in_line, end_of_line, begins_line, line_read}
 use Rattle.m4_text.proofs.Bodies.{IsBody, length-body, some_body, body_of_bare, bare_of_body, none_wrong}
 
 -- lines and more lines

@@ -10,12 +10,12 @@ use Rattle.m4_model.specs.Text.{Begins, Reads, Refusal, Fault, BadAt, PastLimit,
 use Rattle.m4_model.specs.Bare.{ReadsBare, RefusalBare}
 use Rattle.m4_text.specs.Place.{GoesWrong, GoesWrongFrom, IsOpening, IsOpeningOf, IsNumber, Lengthens, IsLeadingNumber, IsNumberAt, IsHeaderOf, IsLine, IsBareOf, HasLine, IsBinaryDigit}
 use Rattle.m4_text.specs.Refused.{IsRefusal}
-use Rattle.m4_text.specs.Reading.{AreRowsToRead}
+use Rattle.m4_text.specs.Reading.{AreRowsToRead, entries_of}
 use Rattle.m4_text.proofs.Fronts.{GoesWrong-first, GoesWrong-second, GoesWrong-same}
 use Rattle.m4_text.proofs.Numbers.{few_digits, small_more, spelled_more, GoesWrong-number}
 use Rattle.m4_text.proofs.Headers.{GoesWrong-opening, space_apart, line_feed_apart, wrong_opening, wrong_rows, wrong_cols, header_read}
 use Rattle.m4_text.proofs.Refusals.{refused_header, refused_limit, refused_body}
-use Rattle.m4_text.proofs.Lines.{IsPrefixFree-line, wrong_line, line_read, entries_of}
+use Rattle.m4_text.proofs.Lines.{IsPrefixFree-line, wrong_line, line_read}
 use Rattle.m4_text.proofs.Bodies.{IsBody, length-body, some_body, bare_of_body, body_of_bare, text_of_body, wrong_text, none_wrong, longer_text}
 use Rattle.m4_text.proofs.Bares.{no_lines, bad_first_line, large_first_line, bad_line, large_rows, bad_rows, rows_to_read, begins_digit, begins_end, begins_with}
 

@@ -4,8 +4,9 @@ pub mod Headers
 pub mod Lines
 pub mod Bodies
 pub mod Rows
+pub mod WordRows
 pub mod Refusals
-pub mod Writes
+pub mod Putting
 pub mod Bares
 pub mod Columns
 pub mod TokenLemmas

@@ -4,6 +4,7 @@ use Rattle.std.proofs.lemmas.List.{length-map, map-append, length-replicate, get
 use Rattle.std.proofs.lemmas.Bool.{cases_lt}
 use Rattle.m4_model.specs.Text.{Begins, line}
 use Rattle.m4_text.specs.Place.{GoesWrong, AreBits, IsLine, IsBinaryDigit}
+use Rattle.m4_text.specs.Reading.{entries_of}
 use Rattle.m4_text.proofs.Fronts.{IsPrefixFree, IsPrefixFree-same_length, IsLongest-from_next}
 
 -- a line is one longer than its row
@@ -13,10 +14,6 @@ length-line n w (entries, bits, e) =
 
 pub IsPrefixFree-line : (n : ℕ) → IsPrefixFree (IsLine n)
 IsPrefixFree-line n = IsPrefixFree-same_length (IsLine n) (λ a b first second. length-line n a first ∙ sym (length-line n b second))
-
--- the entries that digits spell
-abbrev pub entries_of : List ℕ → List ℕ
-entries_of digits = map (λ byte. byte - 48) digits
 
 -- digits spell their entries
 pub spelled_back : (digits : List ℕ) → ((j : ℕ) → j < length digits → IsBinaryDigit (get_or digits j 0))

@@ -1,70 +1,57 @@
 -- A matrix while its rows are read.
-use Rattle.std.proofs.Common.{◌≡◌, ℕ, ◌+◌, ◌-◌, ◌<◌, ◌≤◌, Bool, true, false, if◌then◌else◌, List, [], ◌∷◌, ◌++◌, length, get_or, set, take, drop, flat_map, refl, sym, ◌∙◌, ap, subst, arith, ◌⊎◌, inl, inr, append_assoc, append-nil, take-add, take_all, get_or-set_same, get_or-set_other, length-drop, take-append-drop, ap₂, subst₂, ◌^◌}
-use Rattle.std.proofs.lemmas.List.{length-map, length-set, length-take-le, set-get_or, set-set, set_at, drop_more, drop_all, map_more, take_more_set, flat_map_more}
+use Rattle.std.proofs.Common.{◌≡◌, ℕ, ◌+◌, ◌<◌, ◌≤◌, Bool, true, false, List, [], ◌∷◌, ◌++◌, length, get_or, set, take, drop, flat_map, refl, sym, ◌∙◌, ap, subst, arith, ◌⊎◌, inl, inr, take-add, take_all, get_or-set_same, get_or-set_other, length-take, get_or-take, length-drop, take-append-drop, ap₂, subst₂, ◌^◌}
+use Rattle.std.proofs.lemmas.List.{get_or_default, length-set, length-take-le, take_more_set, flat_map_more}
 use Rattle.std.proofs.lemmas.Bool.{cases_eq}
 use Rattle.m4_model.specs.Field.{Field, gf2}
-use Rattle.m4_model.specs.Matrix.{Matrix, IsMatrix, row, with_row, with_entry}
+use Rattle.m4_model.specs.Matrix.{Matrix, IsMatrix, with_row}
 use Rattle.m4_model.specs.Text.{IsTextOf, header, line, text}
-use Rattle.m4_text.specs.Place.{GoesWrong, AreBits, IsLine, IsBareOf, IsWrongText, IsBinaryDigit}
-use Rattle.m4_text.specs.Reading.{HasDigit, ReadsRow, ReadsRows, ReadsLines}
-use Rattle.m4_text.proofs.Lines.{entries_of, line_read}
+use Rattle.m4_bits.specs.Digits.{AreDigits}
+use Rattle.m4_text.specs.Place.{GoesWrong, AreBits, IsLine, IsBareOf, IsWrongText, IsBinaryDigit, HasLine}
+use Rattle.m4_text.specs.Reading.{HasDigit, ReadsRow, ReadsRows, ReadsLines, entries_of}
+use Rattle.m4_text.proofs.Lines.{line_read}
 use Rattle.m4_text.proofs.Fronts.{GoesWrong-same}
 use Rattle.m4_text.proofs.Bodies.{IsBody, body_of_rows, body_of_bare, bare_of_body, AreRows, AreRows-matrix, AreRows-take, wrong_row, wrong_text, none_wrong, longer_text}
-
--- A row of which the first c entries are read.
-abbrev pub row_so_far : List ℕ → List ℕ → ℕ → List ℕ
-row_so_far bytes old c = entries_of (take c bytes) ++ drop c old
-
--- before the first digit nothing has changed
-pub row_begins : (A : Matrix) (r : ℕ) (bytes : List ℕ) → A ≡ with_row A r (row_so_far bytes (row A r) 0)
-row_begins A r bytes = ap (λ (rows : List (List ℕ)). record A { entries = rows }) (sym (set-get_or A.entries r []))
-
--- an entry of a row that was changed
-entry_changed : (A : Matrix) (r c x : ℕ) (es : List ℕ) → r < length A.entries
-    → with_entry (with_row A r es) r c x ≡ with_row A r (set es c x)
-entry_changed A r c x es inside =
-    let read : get_or (set A.entries r es) r [] ≡ es = get_or-set_same A.entries r es [] inside in
-    ap (λ (rows : List (List ℕ)). record A { entries = rows })
-    (ap (λ l. set (set A.entries r es) r (set l c x)) read ∙ set-set A.entries r es (set es c x))
-
--- one digit more
-pub row_goes_on : (A : Matrix) (r c : ℕ) (bytes : List ℕ) (bit : Bool) → r < length A.entries → c < length (row A r)
-    → HasDigit bytes c bit
-    → with_entry (with_row A r (row_so_far bytes (row A r) c)) r c (if bit then 1 else 0) ≡ with_row A r (row_so_far bytes (row A r) (c + 1))
-row_goes_on A r c bytes bit inside in_row has =
-    let old = row A r in
-    let x : ℕ = if bit then 1 else 0 in
-    let width : length (entries_of (take c bytes)) ≡ c =
-    length-map (take c bytes) (λ byte. byte - 48) ∙ length-take-le c bytes (omega (arith, has.inside)) in
-    let value : get_or bytes c 0 - 48 ≡ x = omega (arith, has.digit) in
-    let more : entries_of (take (c + 1) bytes) ≡ entries_of (take c bytes) ++ x ∷ [] =
-    map_more (λ byte. byte - 48) bytes c 0 has.inside ∙ ap (λ d. entries_of (take c bytes) ++ d ∷ []) value in
-    let changed : set (row_so_far bytes old c) c x ≡ row_so_far bytes old (c + 1) =
-    ap (λ l. set (entries_of (take c bytes) ++ l) c x) (drop_more old c 0 in_row)
-    ∙ set_at (entries_of (take c bytes)) (get_or old c 0) (drop (c + 1) old) x c width
-    ∙ sym (append_assoc (entries_of (take c bytes)) (x ∷ []) (drop (c + 1) old))
-    ∙ ap (λ l. l ++ drop (c + 1) old) (sym more) in
-    entry_changed A r c x (row_so_far bytes old c) inside ∙ ap (λ l. with_row A r l) changed
-
--- all digits, and the line feed
-pub row_read : (A : Matrix) (r : ℕ) (bytes : List ℕ) → length (row A r) ≡ A.cols → A.cols < length bytes
-    → ((j : ℕ) → j < A.cols → IsBinaryDigit (get_or bytes j 0)) → get_or bytes A.cols 0 ≡ 10
-    → ReadsRow bytes A (with_row A r (row_so_far bytes (row A r) A.cols)) r
-row_read A r bytes wide inside are end =
-    let read = line_read A.cols bytes inside are end in
-    let rest : drop A.cols (row A r) ≡ [] = drop_all A.cols (row A r) (omega (arith, wide)) in
-    record {
-      entries = entries_of (take A.cols bytes);
-      bits = read.0;
-      within = omega arith;
-      spelled = read.1;
-      changed = ap (λ l. with_row A r (entries_of (take A.cols bytes) ++ l)) rest ∙ ap (λ l. with_row A r l) (append-nil _);
-    }
 
 -- a digit is one of two
 pub HasDigit-binary : (bytes : List ℕ) (place : ℕ) (bit : Bool) → HasDigit bytes place bit → IsBinaryDigit (get_or bytes place 0)
 HasDigit-binary bytes place true has = (omega (arith, has.digit), omega (arith, has.digit))
 HasDigit-binary bytes place false has = (omega (arith, has.digit), omega (arith, has.digit))
+
+binary_from_digit : (d : ℕ) → (d ≡ 48) ⊎ (d ≡ 49) → IsBinaryDigit d
+binary_from_digit d (inl zero_digit) = (omega arith, omega arith)
+binary_from_digit d (inr one_digit) = (omega arith, omega arith)
+
+digit_from_binary : (d : ℕ) → IsBinaryDigit d → (d ≡ 48) ⊎ (d ≡ 49)
+digit_from_binary d is =
+    elim (cases_eq d 48) [
+      | inl low ↦ inl low
+      | inr other ↦ inr (omega (arith, is.0, is.1))
+    ]
+
+pub binary_digits : (n : ℕ) (bytes : List ℕ) → n ≤ length bytes → AreDigits (take n bytes) → (j : ℕ) → j < n → IsBinaryDigit (get_or bytes j 0)
+binary_digits n bytes within digits j below =
+    binary_from_digit (get_or bytes j 0)
+    (subst (λ b. (b ≡ 48) ⊎ (b ≡ 49)) (get_or-take n bytes j 0 below) (digits j 0 (omega (arith, length-take n bytes))))
+
+-- a row of digits and a line feed are its line
+pub row_read : (A : Matrix) (r : ℕ) (bytes : List ℕ) → A.cols < length bytes → AreDigits (take A.cols bytes) → get_or bytes A.cols 0 ≡ 10
+    → ReadsRow bytes A (with_row A r (entries_of (take A.cols bytes))) r
+row_read A r bytes inside digits end =
+    let read = line_read A.cols bytes inside (binary_digits A.cols bytes (omega arith) digits) end in
+    record {
+      entries = entries_of (take A.cols bytes);
+      bits = read.0;
+      within = omega arith;
+      spelled = read.1;
+      changed = refl;
+    }
+
+-- the line of a row has digits
+pub digits_of_line : (n : ℕ) (bytes : List ℕ) → HasLine bytes n → AreDigits (take n bytes)
+digits_of_line n bytes has = λ j d below.
+    let front : j < n = omega (arith, length-take n bytes) in
+    let inside : j < length bytes = omega (arith, has.inside) in
+    subst (λ b. (b ≡ 48) ⊎ (b ≡ 49)) (get_or_default bytes j 0 d inside ∙ sym (get_or-take n bytes j d front)) (digit_from_binary (get_or bytes j 0) (has.digits j front))
 
 -- a row of a matrix with another row r is that, or as it was
 changed_row : (rows : List (List ℕ)) (r i : ℕ) (es : List ℕ) → i < length rows

@@ -3,4 +3,5 @@ pub mod Reading
 pub mod Refused
 pub mod Tokens
 pub mod Forms
+pub mod Pending
 pub mod Reader

@@ -1,5 +1,5 @@
 -- What the reading of digits, of one row and of all rows does to a matrix.
-use Rattle.std.specs.Prelude.{◌≡◌, ℕ, ◌+◌, ◌-◌, ◌*◌, ◌<◌, ◌≤◌, ◌⊎◌, Bool, if◌then◌else◌, List, length, take, slice_index}
+use Rattle.std.specs.Prelude.{◌≡◌, ℕ, ◌+◌, ◌-◌, ◌*◌, ◌<◌, ◌≤◌, ◌⊎◌, Bool, if◌then◌else◌, List, map, length, take, slice_index}
 use Rattle.m4_model.specs.Field.{gf2}
 use Rattle.m4_model.specs.Matrix.{Matrix, IsMatrix, with_row}
 use Rattle.m4_model.specs.Text.{line, text, IsWithinLimits}
@@ -11,9 +11,21 @@ pub record HasDigit (bytes : List ℕ) (place : ℕ) (bit : Bool) : Type 0 where
   pub inside : place < length bytes
   pub digit : slice_index bytes place ≡ 48 + (if bit then 1 else 0)
 
+-- The entries that digits spell.
+abbrev pub entries_of : List ℕ → List ℕ
+entries_of digits = map (λ byte. byte - 48) digits
+
+-- The digits that entries are spelled by.
+abbrev pub digits_from : List ℕ → List ℕ
+digits_from entries = map (λ x. 48 + x) entries
+
 -- No digit 0 or 1 stands at this place.
 abbrev pub LacksDigit : List ℕ → ℕ → Type 0
 LacksDigit bytes place = place < length bytes → IsBinaryDigit (slice_index bytes place) → ⊥
+
+-- A line feed stands at this place.
+abbrev pub EndsAt : List ℕ → ℕ → Type 0
+EndsAt bytes place = (place < length bytes) × (slice_index bytes place ≡ 10)
 
 -- The bytes begin with the line of a row, and the new matrix has it for row r.
 pub record ReadsRow (bytes : List ℕ) (old new : Matrix) (r : ℕ) : Type 0 where

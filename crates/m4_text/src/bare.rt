@@ -7,7 +7,7 @@ ghost use Rattle.m4_text.specs.Reading.{AreRowsToRead};
 ghost use Rattle.m4_text.specs.Refused.{IsRefusedIn};
 
 use crate::TextFault;
-use crate::body::{binary_digit, read_lines};
+use crate::body::{binary_digit, ends_at, read_lines};
 use crate::limits::{MOST_COLS, most_rows};
 use m4_mzd::Mzd;
 use std::alloc::Global;
@@ -52,7 +52,7 @@ fn first_line(bytes: &[u8]) -> Result<u32, TextFault>
         cols += 1;
     }
     let end = cols as usize;
-    if end < bytes.len() && bytes[end] == b'\n' {
+    if ends_at(bytes, end) {
         Ok(cols)
     } else {
         Err(TextFault::Bad { at: end as u64 })

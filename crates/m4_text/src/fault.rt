@@ -1,6 +1,8 @@
 ghost use Rattle.std.specs.Prelude.{◌≡◌};
 ghost use Rattle.m4_text.specs.declared.fault.TextFault.TheVariants.{NoMemory as no_memory};
+ghost use Rattle.m4_text.specs.declared.fault.WriteFault.TheVariants.{Failed as failed};
 
+use m4_io::Failed;
 use m4_model::NoMemory;
 use thiserror::Error;
 
@@ -23,5 +25,21 @@ impl From<NoMemory> for TextFault {
 
     fn from(_error: NoMemory) -> TextFault {
         TextFault::NoMemory
+    }
+}
+
+/// Why a text was not written.
+#[derive(Clone, Copy, Debug, PartialEq, Eq, Error)]
+pub enum WriteFault {
+    /// The sink failed.
+    #[error("write failed")]
+    Failed,
+}
+
+impl From<Failed> for WriteFault {
+    ghost from_gives = { λ _ fault. fault ≡ failed };
+
+    fn from(_failed: Failed) -> WriteFault {
+        WriteFault::Failed
     }
 }

@@ -5,13 +5,13 @@ ghost use Rattle.m4_io.specs.Outside.{WritesAll};
 ghost use Rattle.m4_text.specs.Forms.{text_form};
 ghost use Rattle.m4_text.specs.Refused.{IsRefusedIn};
 
-use crate::TextFault;
 use crate::bare::read_bare;
 use crate::jcf_read::read_jcf;
 use crate::jcf_write::{is_zero_row, write_jcf};
 use crate::read::read_text;
-use crate::write::{write_lines, write_text};
-use m4_io::{Failed, Sink};
+use crate::write::{write_bare, write_text};
+use crate::{TextFault, WriteFault};
+use m4_io::Sink;
 use m4_mzd::Mzd;
 use std::alloc::Global;
 
@@ -53,14 +53,14 @@ pub fn can_write(m: &Mzd, form: Form) -> bool
 }
 
 /// Writes the text of the matrix in this form. It takes no memory.
-pub fn write_as<O: Sink>(m: &Mzd, form: Form, sink: &mut O) -> Result<(), Failed>
+pub fn write_as<O: Sink>(m: &Mzd, form: Form, sink: &mut O) -> Result<(), WriteFault>
     requires { can_hold (text_form form) m.now }
     ensures { WritesAll (O.taken sink.old) (O.taken sink.new) (O.faults sink.old) (O.faults sink.new) result
         (text_as (text_form form) m.now) }
 {
     match form {
         Form::Text => write_text(m, sink),
-        Form::Bare => write_lines(m, sink),
+        Form::Bare => write_bare(m, sink),
         Form::Jcf => write_jcf(m, sink),
     }
 }

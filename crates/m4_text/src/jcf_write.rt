@@ -2,60 +2,65 @@ ghost use Rattle.std.specs.Prelude.{◌≡◌, ◌↔◌, IsTrue, ◌<◌, ◌�
 ghost use Rattle.m4_model.specs.Matrix.{row};
 ghost use Rattle.m4_model.specs.Jcf.{jcf_text, jcf_header, jcf_lines, line_of_columns, nonzero_columns, nonzeros, IsZeroRow};
 ghost use Rattle.m4_io.specs.Outside.{WritesAll};
+ghost use Rattle.m4_text.specs.Pending.{Puts};
 
-use crate::write::write_number;
+use crate::WriteFault;
+use crate::pending::Pending;
 use itoa::Buffer;
-use m4_io::{Failed, Sink, write_whole};
+use m4_io::{Failed, Sink};
 use m4_mzd::Mzd;
 
 /// Writes the JCF text of the matrix: its header, and then the columns of the ones, row by row. It takes no memory.
-pub fn write_jcf<O: Sink>(m: &Mzd, sink: &mut O) -> Result<(), Failed>
+pub fn write_jcf<O: Sink>(m: &Mzd, sink: &mut O) -> Result<(), WriteFault>
     ensures { WritesAll (O.taken sink.old) (O.taken sink.new) (O.faults sink.old) (O.faults sink.new) result
         (jcf_text m.now) }
 {
-    write_jcf_header(m, sink)?;
-    write_rows(m, sink)
+    let mut pending = Pending::new();
+    put_jcf_header(m, &mut pending, sink)?;
+    put_rows(m, &mut pending, sink)?;
+    pending.finish(sink)?;
+    Ok(())
 }
 
-/// Writes the header of the matrix.
-fn write_jcf_header<O: Sink>(m: &Mzd, sink: &mut O) -> Result<(), Failed>
-    ensures { WritesAll (O.taken sink.old) (O.taken sink.new) (O.faults sink.old) (O.faults sink.new) result
-        (jcf_header m.now.rows m.now.cols (nonzeros m.now)) }
+/// Puts the header of the matrix.
+fn put_jcf_header<O: Sink>(m: &Mzd, pending: &mut Pending, sink: &mut O) -> Result<(), Failed>
+    ensures { Puts (O.taken sink.old) (O.taken sink.new) (O.faults sink.old) (O.faults sink.new)
+        pending.old pending.new result (jcf_header m.now.rows m.now.cols (nonzeros m.now)) }
 {
-    write_number(u64::from(m.rows()), b' ', sink)?;
-    write_number(u64::from(m.cols()), b' ', sink)?;
-    write_whole(sink, b"2\n")?;
-    write_number(count_ones(m), b'\n', sink)
+    pending.put_number(u64::from(m.rows()), b' ', sink)?;
+    pending.put_number(u64::from(m.cols()), b' ', sink)?;
+    pending.put(b"2\n", sink)?;
+    pending.put_number(count_ones(m), b'\n', sink)
 }
 
-/// Writes the lines of the matrix's rows.
-fn write_rows<O: Sink>(m: &Mzd, sink: &mut O) -> Result<(), Failed>
-    ensures { WritesAll (O.taken sink.old) (O.taken sink.new) (O.faults sink.old) (O.faults sink.new) result
-        (jcf_lines m.now) }
+/// Puts the lines of the matrix's rows.
+fn put_rows<O: Sink>(m: &Mzd, pending: &mut Pending, sink: &mut O) -> Result<(), Failed>
+    ensures { Puts (O.taken sink.old) (O.taken sink.new) (O.faults sink.old) (O.faults sink.new)
+        pending.old pending.new result (jcf_lines m.now) }
 {
     for r in 0..m.rows() {
-        write_columns(m, r, sink)?;
+        put_columns(m, r, pending, sink)?;
     }
     Ok(())
 }
 
-/// Writes the line of row `r`: nothing where it has no ones.
-fn write_columns<O: Sink>(m: &Mzd, r: u32, sink: &mut O) -> Result<(), Failed>
+/// Puts the line of row `r`: nothing where it has no ones.
+fn put_columns<O: Sink>(m: &Mzd, r: u32, pending: &mut Pending, sink: &mut O) -> Result<(), Failed>
     requires { r < m.now.rows }
-    ensures { WritesAll (O.taken sink.old) (O.taken sink.new) (O.faults sink.old) (O.faults sink.new) result
-        (line_of_columns (nonzero_columns 1 (row m.now r))) }
+    ensures { Puts (O.taken sink.old) (O.taken sink.new) (O.faults sink.old) (O.faults sink.new)
+        pending.old pending.new result (line_of_columns (nonzero_columns 1 (row m.now r))) }
 {
     let mut first = true;
     for c in 0..m.cols() {
         if m.get(r, c) {
-            write_column(byte_before(first), c + 1, sink)?;
+            put_column(byte_before(first), c + 1, pending, sink)?;
             first = false;
         }
     }
     if first {
         Ok(())
     } else {
-        write_whole(sink, b"\n")
+        pending.put(b"\n", sink)
     }
 }
 
@@ -66,14 +71,19 @@ fn byte_before(first: bool) -> u8
     if first { b'-' } else { b' ' }
 }
 
-/// Writes the number of a column, behind this byte.
-fn write_column<O: Sink>(before: u8, column: u32, sink: &mut O) -> Result<(), Failed>
-    ensures { WritesAll (O.taken sink.old) (O.taken sink.new) (O.faults sink.old) (O.faults sink.new) result
-        (before ∷ decimal column) }
+/// Puts the number of a column, behind this byte.
+fn put_column<O: Sink>(
+    before: u8,
+    column: u32,
+    pending: &mut Pending,
+    sink: &mut O,
+) -> Result<(), Failed>
+    ensures { Puts (O.taken sink.old) (O.taken sink.new) (O.faults sink.old) (O.faults sink.new)
+        pending.old pending.new result (before ∷ decimal column) }
 {
-    write_whole(sink, &[before])?;
     let mut buffer = Buffer::new();
-    write_whole(sink, buffer.format(column).as_bytes())
+    pending.put(&[before], sink)?;
+    pending.put(buffer.format(column).as_bytes(), sink)
 }
 
 /// How many entries of the matrix are 1.

@@ -19,6 +19,7 @@ mod jcf_read;
 mod jcf_write;
 mod laws;
 mod limits;
+mod pending;
 mod read;
 mod reader;
 #[cfg(test)]
@@ -26,7 +27,7 @@ mod tests;
 mod tokens;
 mod write;
 
-pub use fault::TextFault;
+pub use fault::{TextFault, WriteFault};
 pub use form::{Form, can_write, read_as, write_as};
 pub use laws::{law_read, law_read_back, law_read_or_refused, law_text_len};
 pub use limits::within_limits;

@@ -95,6 +95,42 @@ fn headed_texts_are_read_and_written(rt: HostRuntime) -> Result<(), Fail> {
     Ok(())
 }
 
+/// The headed text of a matrix of so many rows and columns, whose entries have a period of 3.
+fn long_text(alloc: Global, header: &[u8], rows: usize, cols: usize) -> Result<Vec<u8>, Fail> {
+    let mut text = Vec::from_slice(alloc, header)?;
+    for r in 0..rows {
+        for c in 0..cols {
+            text.push(if (r ^ c) % 3 == 0 { b'1' } else { b'0' })?;
+        }
+        text.push(b'\n')?;
+    }
+    Ok(text)
+}
+
+/// Reads a long text, and writes it again.
+fn is_written_again(
+    rt: &impl Abort,
+    alloc: Global,
+    header: &[u8],
+    rows: usize,
+    cols: usize,
+) -> Result<(), Fail> {
+    let text = long_text(alloc, header, rows, cols)?;
+    let m = read_text(alloc, &text)?;
+    let mut sink = MemSink::new(alloc, 1_000_000, Vec::new(alloc))?;
+    write_text(&m, &mut sink)?;
+    assert_eq!(rt; sink.taken(), &text[..]);
+    Ok(())
+}
+
+#[test]
+fn long_texts_are_read_and_written(rt: HostRuntime) -> Result<(), Fail> {
+    is_written_again(&rt, rt.alloc(), b"gf2 600 63\n", 600, 63)?;
+    is_written_again(&rt, rt.alloc(), b"gf2 600 64\n", 600, 64)?;
+    is_written_again(&rt, rt.alloc(), b"gf2 600 65\n", 600, 65)?;
+    is_written_again(&rt, rt.alloc(), b"gf2 3 40000\n", 3, 40000)
+}
+
 #[test]
 fn bare_texts_are_read_and_written(rt: HostRuntime) -> Result<(), Fail> {
     let rows: [(&[u8], &[u8]); 4] = [
@@ -150,7 +186,10 @@ fn a_text_cut_short_goes_wrong_at_its_end(rt: HostRuntime) {
 
 #[test]
 fn texts_are_refused_at_their_places(rt: HostRuntime) {
-    let rows: [(Form, &[u8], u64); 17] = [
+    let wide =
+        b"gf2 1 70\n1101000011010000110100010000000011000011011001011010111110110010110x00\n";
+    let rows: [(Form, &[u8], u64); 18] = [
+        (Form::Text, wide, 76),
         (Form::Text, b"gf2 16384 16384\n", 16),
         (Form::Text, b"gf2e 2 7 1 1\n", 3),
         (Form::Text, b"gf2 01 1\n", 5),

@@ -1,0 +1,172 @@
+-- The putting of bytes piece by piece.
+use Rattle.std.proofs.Common.{◌≡◌, ℕ, ◌+◌, ◌-◌, ◌*◌, ◌<◌, min, List, [], ◌++◌, length, get_or, take, drop, flat_map, length-take, length-drop, get_or-take, get_or-drop, ext_get_or, take-add, Option, Result, Ok, Err, refl, sym, ◌∙◌, ap, subst, arith, append_assoc, append-nil, take-append-drop}
+use Rattle.std.proofs.lemmas.List.{length-map, map-append, get_or-map, take_more, flat_map_more}
+use Rattle.std.proofs.lemmas.List.FromFn.{length-map-range_with_len, get_or-map-range_with_len}
+use Rattle.std.specs.Int.{bit_at}
+use Rattle.std.proofs.lemmas.List.Concat.{flat_map-append}
+use Rattle.m4_model.specs.Matrix.{Matrix, row}
+use Rattle.m4_io.specs.Outside.{WritesAll}
+use Rattle.m4_io.specs.declared.failed.Failed.{Failed}
+use Rattle.m4_io.proofs.Writing.{writes_nothing, writes_both, writes_stopped}
+use Rattle.m4_bits.specs.Digits.{digits_of}
+use Rattle.m4_text.specs.Pending.{Puts}
+use Rattle.m4_text.specs.Reading.{digits_from}
+
+-- nothing is put
+pub puts_nothing : (old : Option (List ℕ)) (before : ℕ) (waits : List ℕ) → Puts old old before before waits waits (Ok tt) []
+puts_nothing old before waits = record { ok = ([], writes_nothing old before tt, append-nil waits); err = tt }
+
+-- all that waits goes
+pub puts_all : {old new : Option (List ℕ)} {before now : ℕ} {waited : List ℕ}
+    → WritesAll {T = Unit {0}} {E = Failed} old new before now (Ok tt) waited → Puts old new before now waited [] (Ok tt) []
+puts_all {waited = waited} written = record { ok = (waited, written, refl); err = tt }
+
+-- a few bytes, behind those that wait when there is room
+pub puts_behind : {old new : Option (List ℕ)} {before now : ℕ} {waited room waits : List ℕ} {bytes : List ℕ}
+    → Puts old new before now waited room (Ok tt) [] → waits ≡ room ++ bytes → Puts old new before now waited waits (Ok tt) bytes
+puts_behind {old} {new} {before} {now} {waited} {room} {waits} {bytes} moved is =
+    let (went, written, split) = moved.ok in
+    record {
+      ok = (went, written, ap (λ w. w ++ bytes) (sym (append-nil waited) ∙ split) ∙ append_assoc went room bytes ∙ ap (λ w. went ++ w) (sym is));
+      err = tt;
+    }
+
+-- bytes behind others that were put
+pub puts_both : {old mid new : Option (List ℕ)} {before between now : ℕ} {waited waits left : List ℕ} (result : Result (Unit {0}) Failed)
+    (first second : List ℕ) → Puts old mid before between waited waits (Ok tt) first
+    → Puts mid new between now waits left result second → Puts old new before now waited left result (first ++ second)
+puts_both {old} {mid} {new} {before} {between} {now} {waited} {waits} {left} (Ok done) first second one two =
+    let (went, written, split) = one.ok in
+    let (more, further, rest) = two.ok in
+    record {
+      ok = (
+        went ++ more,
+        writes_both old mid new before between now tt (Ok done) went more written further,
+        sym (append_assoc waited first second) ∙ ap (λ w. w ++ second) split ∙ append_assoc went waits second
+            ∙ ap (λ w. went ++ w) rest ∙ sym (append_assoc went more left),
+      );
+      err = tt;
+    }
+puts_both {old} {mid} {new} {before} {between} {now} {waited} {waits} {left} (Err fault) first second one two =
+    let (went, written, split) = one.ok in
+    record {
+      ok = tt;
+      err = subst (WritesAll {T = Unit {0}} old new before now (Err fault))
+          (sym (append_assoc went waits second) ∙ ap (λ w. w ++ second) (sym split) ∙ append_assoc waited first second)
+          (writes_both old mid new before between now tt (Err fault) went (waits ++ second) written two.err);
+    }
+
+-- a front that fails
+pub front_fails : {old new : Option (List ℕ)} {before now : ℕ} {waited waits left : List ℕ} {result : Result (Unit {0}) Failed} {e d : Failed}
+    {whole front : List ℕ} (rest : List ℕ) → whole ≡ front ++ rest → Puts old new before now waited waits (Err e) front
+    → result ≡ Err d → Puts old new before now waited left result whole
+front_fails {old} {new} {before} {now} {waited} {waits} {left} {result} {e} {d} {whole} {front} rest split first is =
+    subst (λ r. Puts old new before now waited left r whole) (sym is) (record {
+      ok = tt;
+      err = subst (WritesAll {T = Unit {0}} old new before now (Err d)) (append_assoc waited front rest ∙ ap (λ w. waited ++ w) (sym split))
+          (writes_stopped old new before now e d (waited ++ front) rest first.err);
+    })
+
+-- a piece behind a front that was put
+pub piece_put : {old mid new : Option (List ℕ)} {before between now : ℕ} {waited waits left : List ℕ} {result : Result (Unit {0}) Failed}
+    {whole front piece : List ℕ} → whole ≡ front ++ piece → Puts old mid before between waited waits (Ok tt) front
+    → Puts mid new between now waits left result piece → Puts old new before now waited left result whole
+piece_put {old} {mid} {new} {before} {between} {now} {waited} {waits} {left} {result} {whole} {front} {piece} split first second =
+    subst (Puts old new before now waited left result) (sym split) (puts_both result front piece first second)
+
+-- a piece behind such a front that fails
+pub piece_fails : {old mid new : Option (List ℕ)} {before between now : ℕ} {waited waits left last : List ℕ} {result : Result (Unit {0}) Failed}
+    {e d : Failed} {whole front piece : List ℕ} (rest : List ℕ) → whole ≡ (front ++ piece) ++ rest
+    → Puts old mid before between waited waits (Ok tt) front → Puts mid new between now waits left (Err e) piece → result ≡ Err d
+    → Puts old new before now waited last result whole
+piece_fails {left} rest split first second is = front_fails {waits = left} rest split (piece_put {left = left} refl first second) is
+
+-- a text whose putting failed
+pub put_fails : {D : Type 0} {old new : Option (List ℕ)} {before now : ℕ} {waits : List ℕ} {result : Result (Unit {0}) D} {e : Failed} {d : D}
+    {start text front : List ℕ} (rest : List ℕ) → start ≡ [] → text ≡ front ++ rest → Puts old new before now start waits (Err e) front
+    → result ≡ Err d → WritesAll old new before now result text
+put_fails {old} {new} {before} {now} {result} {e} {d} {start} {text} {front} rest none split put is =
+    let whole : (start ++ front) ++ rest ≡ text = ap (λ w. (w ++ front) ++ rest) none ∙ sym split in
+    subst (λ r. WritesAll old new before now r text) (sym is)
+    (subst (WritesAll {T = Unit {0}} old new before now (Err d)) whole (writes_stopped old new before now e d (start ++ front) rest put.err))
+
+-- what waits at last is written, with any answer
+put_and_written : {old mid new : Option (List ℕ)} {before between now : ℕ} {waits : List ℕ} {result : Result (Unit {0}) Failed}
+    {start text : List ℕ} → start ≡ [] → Puts old mid before between start waits (Ok tt) text → WritesAll mid new between now result waits
+    → WritesAll old new before now result text
+put_and_written {old} {mid} {new} {before} {between} {now} {waits} {result} {start} {text} none put last =
+    let (went, written, split) = put.ok in
+    let whole : went ++ waits ≡ text = sym split ∙ ap (λ w. w ++ text) none in
+    subst (WritesAll old new before now result) whole (writes_both old mid new before between now tt result went waits written last)
+
+-- a text that is written by and by
+pub put_ends : {D : Type 0} {old mid new : Option (List ℕ)} {before between now : ℕ} {waits start text : List ℕ}
+    → start ≡ [] → Puts old mid before between start waits (Ok tt) text → WritesAll {T = Unit {0}} {E = Failed} mid new between now (Ok tt) waits
+    → WritesAll {T = Unit {0}} {E = D} old new before now (Ok tt) text
+put_ends none put last =
+    let whole = put_and_written {result = Ok tt} none put last in
+    record {
+      taken = whole.taken;
+      later = whole.later;
+      kept = whole.kept;
+      cause = tt;
+      grown = λ more. absurd (omega (arith, whole.kept, more));
+    }
+
+-- a text whose last bytes are not all written
+pub put_end_fails : {D : Type 0} {old mid new : Option (List ℕ)} {before between now : ℕ} {waits : List ℕ} {result : Result (Unit {0}) D} {e : Failed} {d : D}
+    {start text : List ℕ} → start ≡ [] → Puts old mid before between start waits (Ok tt) text → WritesAll {T = Unit {0}} mid new between now (Err e) waits
+    → result ≡ Err d → WritesAll old new before now result text
+put_end_fails {old} {new = new} {before} {now = now} {result = result} {e = e} {d = d} {text = text} none put last is =
+    let whole = put_and_written {result = Err e} none put last in
+    subst (λ r. WritesAll old new before now r text) (sym is)
+    (subst (WritesAll {T = Unit {0}} old new before now (Err d)) (append-nil text) (writes_stopped old new before now e d text [] whole))
+
+-- the rows that are put, and one more, by the lines of rows
+module _ (lined : List ℕ → List ℕ) (M : Matrix) (r : ℕ) (inside : r < length M.entries) where
+  pub rows_put : flat_map lined (take (r + 1) M.entries) ≡ flat_map lined (take r M.entries) ++ lined (row M r)
+  rows_put =
+      ap (λ (l : List (List ℕ)). flat_map lined l) (take_more M.entries r [] inside)
+      ∙ sym (flat_map_more lined [] (take r M.entries) (row M r))
+
+  -- and the rest of the text
+  pub rows_left : flat_map lined M.entries ≡ (flat_map lined (take r M.entries) ++ lined (row M r)) ++ flat_map lined (drop (r + 1) M.entries)
+  rows_left =
+      let front = take (r + 1) M.entries in
+      let back = drop (r + 1) M.entries in
+      ap (λ (l : List (List ℕ)). flat_map lined l) (sym (take-append-drop (r + 1) M.entries))
+      ∙ flat_map-append lined front back
+      ∙ ap (λ l. l ++ flat_map lined back) rows_put
+
+-- the digits of a row up to a word, and those of that word
+module _ (entries : List ℕ) (w word count : ℕ) (inside : 64 * w < length entries) (many : count ≡ min (length entries - 64 * w) 64)
+    (bits : (j : ℕ) → j < 64 → bit_at word j ≡ get_or entries (w * 64 + j) 0) where
+  word_digits : digits_from (take 64 (drop (64 * w) entries)) ≡ digits_of word count
+  word_digits =
+      let part = take 64 (drop (64 * w) entries) in
+      let long : length part ≡ count = omega (arith, length-take 64 (drop (64 * w) entries), length-drop (64 * w) entries) in
+      let wide : length (digits_of word count) ≡ count = length-map-range_with_len (λ k. 48 + bit_at word k) 0 count in
+      ext_get_or 0 (digits_from part) (digits_of word count) (length-map part (λ x. 48 + x) ∙ long ∙ sym wide) (λ k below.
+      let here : k < length part = omega (arith, length-map part (λ x. 48 + x)) in
+      let few : k < 64 = omega (arith, long) in
+      let place : 64 * w + k ≡ w * 64 + k = omega arith in
+      get_or-map (λ x. 48 + x) part k 0 0 here
+      ∙ ap (λ x. 48 + x) (get_or-take 64 (drop (64 * w) entries) k 0 few ∙ get_or-drop (64 * w) entries k 0 ∙ ap (λ p. get_or entries p 0) place ∙ sym (bits k few))
+      ∙ sym (get_or-map-range_with_len (λ i. 48 + bit_at word i) 0 count k k 0 (omega (arith, long)) (omega arith)))
+
+  pub word_put : digits_from (take (64 * (w + 1)) entries) ≡ digits_from (take (64 * w) entries) ++ digits_of word count
+  word_put =
+      let next : 64 * (w + 1) ≡ 64 * w + 64 = omega arith in
+      ap (λ n. digits_from (take n entries)) next
+      ∙ ap digits_from (take-add (64 * w) 64 entries)
+      ∙ map-append (λ x. 48 + x) (take (64 * w) entries) (take 64 (drop (64 * w) entries))
+      ∙ ap (λ l. digits_from (take (64 * w) entries) ++ l) word_digits
+
+  -- and the rest of the row
+  pub words_left : digits_from entries ≡ (digits_from (take (64 * w) entries) ++ digits_of word count) ++ digits_from (drop (64 * (w + 1)) entries)
+  words_left =
+      let front = take (64 * (w + 1)) entries in
+      let back = drop (64 * (w + 1)) entries in
+      ap digits_from (sym (take-append-drop (64 * (w + 1)) entries))
+      ∙ map-append (λ x. 48 + x) front back
+      ∙ ap (λ l. l ++ digits_from back) word_put
