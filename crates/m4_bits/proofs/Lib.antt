@@ -6,3 +6,4 @@ pub mod DigitsLemmas
 pub mod TransposeLemmas
 pub mod EightLemmas
 pub mod TakeLemmas
+pub mod ShiftLemmas

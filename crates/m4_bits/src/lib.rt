@@ -11,6 +11,7 @@ ghost use Rattle.m4_bits.specs.Bits.{bit, last_bits, masked};
 
 mod digits;
 mod rows;
+mod shift;
 mod take;
 mod transpose;
 
@@ -19,6 +20,7 @@ pub use rows::{
     clear, copy_into, swap_into, xor_from_column, xor_from2, xor_from3, xor_from4, xor_from5,
     xor_from6, xor_from7, xor_from8, xor_into,
 };
+pub use shift::copy_bits;
 pub use take::take_bits;
 pub use transpose::transpose_64;
 
