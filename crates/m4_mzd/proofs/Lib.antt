@@ -8,6 +8,7 @@ pub mod IdentityLemmas
 pub mod ManyLemmas
 pub mod PairLemmas
 pub mod PartLemmas
+pub mod PlaceLemmas
 pub mod PutLemmas
 pub mod QuarterLemmas
 pub mod RowLemmas

@@ -47,7 +47,7 @@ lower w r = record w { skip = w.skip + r * w.place.stride; rows = w.rows - r; bi
 abbrev pub stacked : Window → Window → Window
 stacked a b = record a { rows = a.rows + b.rows; bits = a.bits ++ b.bits; past = a.past ++ b.past }
 
-rejoined : (w : Window) (r : ℕ) (bits now : List (List ℕ)) → r ≤ w.rows → bits ≡ now
+pub rejoined : (w : Window) (r : ℕ) (bits now : List (List ℕ)) → r ≤ w.rows → bits ≡ now
     → record w { rows = r + (w.rows - r); bits = bits; past = take r w.past ++ drop r w.past } ≡ record w { bits = now }
 rejoined w r bits now within e =
     let rows : r + (w.rows - r) ≡ w.rows = omega arith in

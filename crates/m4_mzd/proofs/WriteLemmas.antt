@@ -47,7 +47,7 @@ holds_own v cols r old w is f =
     subst P is (λ below was. subst (λ l. Holds cols l (get_or (window v cols).bits r [])) (sym was) (holds_row v cols r f below))
 
 -- a row of a window for reading
-holds_shown : (x : Win) (s : ℕ) → s < x.view.rows → Holds x.cols (row_of (seen x.view) s) (row (shown x) s)
+pub holds_shown : (x : Win) (s : ℕ) → s < x.view.rows → Holds x.cols (row_of (seen x.view) s) (row (shown x) s)
 unfolding shown_rows
 holds_shown x s below = holds_row (words_seen x) x.cols s (framed_seen x) below
 

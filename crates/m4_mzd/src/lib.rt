@@ -3,6 +3,7 @@
 #![tactic(auto)]
 
 mod add_mul;
+mod columns;
 mod mzd;
 mod rect;
 mod steps;

@@ -14,6 +14,7 @@ mod pairs;
 mod parts;
 mod rows;
 mod see;
+mod shifted;
 mod words;
 
 /// A window for writing: a rectangle of a matrix's entries, whose first column is at the beginning of a word.
