@@ -1,7 +1,6 @@
 use Rattle.m4_bits.proofs.TakeLemmas.{bit_at-lowest, lowest-lt, lowest-fits}
 use Rattle.m4_bits.proofs.take.lowest_bits.Goals as goal
 
-
 pub returns-clause-bits : goal.returns-clause-bits
 returns-clause-bits c = λ i below. bit_at-lowest c.args.word c.args.n i c.requires below
 
