@@ -1,0 +1,5 @@
+pub mod GrayLemmas
+pub mod FillLemmas
+pub mod SlotLemmas
+pub mod PutLemmas
+pub mod EntryLemmas

@@ -1,0 +1,11 @@
+//! Tables of the sums of a few rows, filled in the order of the Gray code, and rows with entries of several tables added
+//! to them in one pass: Albrecht, Bard and Hart, Efficient multiplication of dense matrices over GF(2), ACM Transactions
+//! on Mathematical Software 37, 2010.
+#![tactic(auto)]
+
+mod fill;
+mod tables;
+#[cfg(test)]
+mod tests;
+
+pub use tables::Tables;

@@ -1,0 +1,165 @@
+//! The tables, and how their entries are added to a row.
+
+ghost use Rattle.std.specs.Prelude.{◌≡◌, ◌+◌, ◌*◌, ◌^◌, ◌<◌, ◌≤◌, IfOk, length, map, slice_index};
+ghost use Rattle.std.specs.List.{All, range_with_len};
+ghost use Rattle.m4_model.specs.Field.{gf2};
+ghost use Rattle.m4_model.specs.Matrix.{row, with_row, zero_matrix};
+ghost use Rattle.m4_mzd.specs.Window.{content, showing};
+ghost use Rattle.m4_mzd.specs.Seen.{shown};
+ghost use Rattle.m4_mzd.specs.Rows.{sum_of};
+ghost use Rattle.m4_gray.specs.Slots.{IsSlots, filled, picked, subset_sums};
+
+use crate::fill::fill_with_sums;
+use m4_model::NoMemory;
+use m4_mzd::{Mzd, Rect, Steps, Win, WinMut};
+use std::alloc::Global;
+use std::marker::Model;
+use std::sync::ledger::Ledger;
+
+/// Up to eight tables of `2^k` entries each, for `k` from 1 to 8. An entry is a row of at most 2^24 columns.
+///
+/// All entries lie in one block of memory, slot after slot. `fill` makes the entries of a slot the sums of a few rows, and
+/// `combine` adds an entry of each slot to a row.
+#[derive(Drop)]
+pub struct Tables {
+    k: u32,
+    count: u32,
+    entries: Mzd,
+    sum: Mzd,
+}
+
+impl Model for Tables {
+    ghost use Rattle.m4_gray.specs.Slots.{Slots, IsKept};
+
+    ghost Value = { Slots };
+
+    ghost view = { λ t. record { k = t.k; count = t.count; entries = t.entries } };
+
+    ghost invariant = { λ t. IsKept t.k t.count t.entries t.sum };
+}
+
+impl Tables {
+    /// So many tables of `2^k` entries, for rows of up to `cols` columns. Every entry is a row of zeros.
+    pub fn new(alloc: Global, k: u32, tables: u32, cols: u32) -> Result<Tables, NoMemory>
+        requires some_k { 1 ≤ k }
+        requires small_k { k ≤ 8 }
+        requires some_tables { 1 ≤ tables }
+        requires few_tables { tables ≤ 8 }
+        requires few_cols { cols ≤ 2 ^ 24 }
+        ensures { IfOk result (λ t. t ≡ record { k = k; count = tables; entries = zero_matrix gf2 (tables * 2 ^ k) cols }) }
+    {
+        let entries = Mzd::zeros(alloc, tables << k, cols)?;
+        let sum = Mzd::zeros(alloc, 1, cols)?;
+        Ok(Tables {
+            k,
+            count: tables,
+            entries,
+            sum,
+        })
+    }
+
+    /// The binary logarithm of how many entries a table has.
+    #[inline]
+    pub fn k(&self) -> u32
+        ensures k { result ≡ self.now.k }
+        ensures shape { IsSlots self.now }
+    {
+        self.k
+    }
+
+    /// How many tables there are.
+    #[inline]
+    pub fn count(&self) -> u32
+        ensures count { result ≡ self.now.count }
+        ensures shape { IsSlots self.now }
+    {
+        self.count
+    }
+
+    /// How many columns an entry has.
+    #[inline]
+    pub fn cols(&self) -> u32
+        ensures cols { result ≡ self.now.entries.cols }
+        ensures shape { IsSlots self.now }
+    {
+        self.entries.cols()
+    }
+
+    /// Makes entry `x` of a slot the sum of the rows `first + i` of `b` over the set bits `i` of `x`, for each `x` below
+    /// `2^bits`. All else stays, the columns past those of `b` too.
+    ///
+    /// The entries come in the order of the binary reflected Gray code, each by one addition of a row to the one before
+    /// it. Takes `2^bits - 1` steps.
+    pub fn fill<L: Ledger>(
+        &mut self,
+        slot: u32,
+        b: &Win,
+        first: u32,
+        bits: u32,
+        steps: &mut Steps<L>,
+    )
+        requires slot { slot < self.old.count }
+        requires few { bits ≤ self.old.k }
+        requires in_cols { (shown b.now).cols ≤ self.old.entries.cols }
+        requires in_rows { first + bits ≤ (shown b.now).rows }
+        ensures sums { self.new ≡ filled self.old slot (subset_sums (shown b.now) first bits) }
+        ensures ticks { steps.new + 1 ≡ steps.old + 2 ^ bits }
+    {
+        let begin = slot << self.k;
+        let rect = Rect {
+            r0: begin,
+            c0: 0,
+            r1: begin + (1 << bits),
+            c1: b.cols(),
+        };
+        let row = Rect {
+            r0: 0,
+            c0: 0,
+            r1: 1,
+            c1: b.cols(),
+        };
+        let (mut part, around) = self.entries.win_mut(rect);
+        let (mut sum, beside) = self.sum.win_mut(row);
+        fill_with_sums(&mut part, &mut sum, b, first, bits, steps);
+        self.sum.put_win(sum, beside);
+        self.entries.put_win(part, around);
+        let _rows = self.entries.rows();
+    }
+
+    /// Adds an entry of each of the first `T` slots to row `r` of `dst`, as far as this has columns: of slot `t` the one
+    /// with the number `index[t]`. All else stays. It is one pass over the words of the row. Takes `T` steps.
+    #[inline]
+    pub fn combine<const T: usize, L: Ledger>(
+        &self,
+        dst: &mut WinMut,
+        r: u32,
+        index: &[u32; T],
+        steps: &mut Steps<L>,
+    )
+        requires some { 1 ≤ T }
+        requires few { T ≤ self.now.count }
+        requires in_slots { All (λ x. x < 2 ^ self.now.k) index.now }
+        requires in_rows { r < dst.old.rows }
+        requires in_cols { dst.old.cols ≤ self.now.entries.cols }
+        ensures row { dst.new ≡ showing dst.old (with_row (content dst.old) r (sum_of (row (content dst.old) r) (picked self.now dst.old.cols index.now))) }
+        ensures ticks { steps.new ≡ steps.old + T }
+    {
+        let numbers = numbered(self.k, index);
+        dst.add_rows(r, &self.entries.all().narrow(dst.cols()), &numbers, steps);
+    }
+}
+
+/// The numbers of these entries among all, where each slot has `2^k`.
+#[inline(always)]
+fn numbered<const T: usize>(k: u32, index: &[u32; T]) -> [u32; T]
+    requires small_k { k ≤ 8 }
+    requires few { T ≤ 8 }
+    requires in_slots { All (λ x. x < 2 ^ k) index.now }
+    ensures { result ≡ map (λ slot. slot * 2 ^ k + slice_index index.now slot) (range_with_len 0 (length index.now)) }
+{
+    let mut numbers = *index;
+    for slot in 0..T {
+        numbers[slot] += (slot as u32) << k;
+    }
+    numbers
+}
