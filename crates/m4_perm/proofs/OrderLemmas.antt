@@ -1,12 +1,12 @@
 -- Lists of the numbers below n in some order: built up, exchanged and inverted.
-use Rattle.std.proofs.Common.{◌≡◌, ◌≢◌, ℕ, zero, suc, ◌+◌, ◌-◌, ◌^◌, ◌<◌, ◌≤◌, ◌⊎◌, inl, inr, List, [], ◌∷◌, ◌++◌, length, get_or, take, drop, set, refl, sym, ◌∙◌, ap, subst, arith, Bool, true, false, eqb, ◌||◌, eq-eqb, length-append, length-take, length-drop, get_or-take, get_or-drop, add-one}
+use Rattle.std.proofs.Common.{◌≡◌, ℕ, zero, suc, ◌+◌, ◌-◌, ◌^◌, ◌<◌, ◌≤◌, ◌⊎◌, inl, inr, List, [], ◌∷◌, ◌++◌, length, get_or, take, drop, set, refl, sym, ◌∙◌, ap, subst, arith, Bool, true, false, eqb, ◌||◌, eq-eqb, length-append, length-take, length-drop, get_or-take, get_or-drop, add-one}
 use Rattle.std.specs.List.{range_with_len, swap, list_any}
-use Rattle.std.proofs.lemmas.List.{drop_more, drop_all, get_or-set_same, get_or-set_other, length-set, get_or_append_left, get_or-append_right, take-append-drop}
+use Rattle.std.proofs.lemmas.List.{drop_more, drop_all, get_or-set_same, get_or-set_other, get_or_append_left, get_or-append_right}
 use Rattle.std.proofs.lemmas.Bool.{cases_eq, cases_lt}
 use Rattle.std.proofs.lemmas.Map.Steps.{le-length_from_below}
 use Rattle.m4_model.specs.Shapes.{exchanged}
 use Rattle.m4_model.specs.Factors.{IsOrder}
-use Rattle.m4_perm.specs.Perm.{AreSwaps, IsInverseOrder, IsPermutation}
+use Rattle.m4_perm.specs.Perm.{IsInverseOrder, IsPermutation}
 
 -- one number more
 pub range_more : (a n : ℕ) → range_with_len a (n + 1) ≡ range_with_len a n ++ (a + n) ∷ []

@@ -41,7 +41,8 @@ impl Perm {
     /// This is how LAPACK's and M4RI's pivot vectors tell a permutation.
     pub fn from_swaps(alloc: Global, n: u32, exchanges: &[u32]) -> Result<Perm, NoMemory>
         requires { AreSwaps n exchanges.now }
-        ensures { IfOk result (λ p. p ≡ swaps n exchanges.now) }
+        ensures list { IfOk result (λ p. p ≡ swaps n exchanges.now) }
+        ensures count { IfOk result (λ p. length p ≡ n) }
     {
         let list = exchange_all(identity_list(alloc, n)?, exchanges);
         Ok(Perm { list })

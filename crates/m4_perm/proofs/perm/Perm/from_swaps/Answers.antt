@@ -1,8 +1,6 @@
-use Rattle.std.proofs.Common.{◌≡◌, ◌<◌, ℕ, List, length, sym, ap, ◌∙◌, subst}
-use Rattle.std.specs.List.{range_with_len}
+use Rattle.std.proofs.Common.{◌≡◌, ℕ, length, sym, ap, ◌∙◌, subst}
 use Rattle.std.proofs.lemmas.List.FromFn.{length-range_with_len}
 use Rattle.m4_model.specs.Shapes.{swaps, exchanged}
-use Rattle.m4_model.specs.Factors.{IsOrder}
 use Rattle.m4_model.proofs.ExchangeLemmas.{IsOrder-swaps}
 use Rattle.m4_perm.specs.Perm.{AreSwaps}
 use Rattle.m4_perm.proofs.OrderLemmas.{permutation_of}
@@ -20,3 +18,11 @@ invariant_of-result c =
     in
     let order = IsOrder-swaps c.args.n c.args.exchanges.now c.requires.count c.requires.below in
     rw is (permutation_of c.args.n (swaps c.args.n c.args.exchanges.now) order c.ranges.n.fits)
+
+pub returns-clause-count : goal.returns-clause-count
+returns-clause-count c =
+    let is : c.exchange_all-list.result.items ≡ swaps c.args.n c.args.exchanges.now =
+    c.exchange_all-list.ensures ∙ ap (exchanged 0 c.args.exchanges.now) c.in_ok-identity_list.ensures
+    in
+    let order = IsOrder-swaps c.args.n c.args.exchanges.now c.requires.count c.requires.below in
+    ap length is ∙ order.count

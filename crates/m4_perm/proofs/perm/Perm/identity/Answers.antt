@@ -1,9 +1,5 @@
-use Rattle.std.proofs.Common.{◌≡◌, ℕ, ◌<◌, List, length, subst, sym, arith}
-use Rattle.std.specs.List.{range_with_len}
 use Rattle.std.proofs.lemmas.List.FromFn.{length-range_with_len}
-use Rattle.m4_model.specs.Factors.{IsOrder}
 use Rattle.m4_model.proofs.ExchangeLemmas.{IsOrder-range}
-use Rattle.m4_perm.specs.Perm.{IsPermutation}
 use Rattle.m4_perm.proofs.perm.Perm.identity.Goals as goal
 
 pub invariant_of-result : goal.invariant_of-result

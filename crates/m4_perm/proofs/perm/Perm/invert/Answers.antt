@@ -1,4 +1,4 @@
-use Rattle.std.proofs.Common.{◌≡◌, ◌<◌, ℕ, List, length, sym, ap, ◌∙◌, subst}
+use Rattle.std.proofs.Common.{ℕ, List, length, subst}
 use Rattle.m4_perm.specs.Perm.{IsInverseOrder}
 use Rattle.m4_perm.proofs.OrderLemmas.{inverse_order, permutation_of}
 use Rattle.m4_perm.proofs.perm.Perm.invert.Goals as goal

@@ -1,7 +1,6 @@
-use Rattle.std.proofs.Common.{◌≡◌, ◌<◌, ℕ, List, length, sym, ap, arith}
+use Rattle.std.proofs.Common.{◌≡◌, length, sym, ap, arith}
 use Rattle.std.proofs.lemmas.List.Edits.{length-swap}
 use Rattle.m4_model.proofs.ExchangeLemmas.{IsOrder-swap}
-use Rattle.m4_perm.specs.Perm.{IsPermutation}
 use Rattle.m4_perm.proofs.perm.Perm.swap.Goals as goal
 
 pub invariant_of-self : goal.invariant_of-self
