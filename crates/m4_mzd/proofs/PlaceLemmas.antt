@@ -1,10 +1,10 @@
 -- Entries that are copied to another place of a row, and words that are written down a column.
-use Rattle.std.proofs.Common.{◌≡◌, ℕ, ◌+◌, ◌-◌, ◌*◌, ◌/◌, ◌%◌, ◌<◌, ◌≤◌, inl, inr, cond, List, [], ◌++◌, length, get_or, set, take, drop, map, replicate, sym, ◌∙◌, ap, arith, eqb}
+use Rattle.std.proofs.Common.{◌≡◌, ℕ, ◌+◌, ◌-◌, ◌*◌, ◌/◌, ◌%◌, ◌<◌, ◌≤◌, inl, inr, cond, List, [], ◌++◌, length, get_or, set, take, drop, map, sym, ◌∙◌, ap, arith, eqb}
 use Rattle.std.specs.List.{range_with_len}
 use Rattle.std.specs.Int.{bit_at}
 use Rattle.std.proofs.lemmas.Nat.Bits.{bit_at-zero}
 use Rattle.std.proofs.lemmas.Bool.{cases_eq, cases_lt}
-use Rattle.std.proofs.lemmas.List.{length-append, length-take-le, length-drop, get_or_append_left, get_or-append_right, get_or-take, get_or-drop, get_or_past, get_or-set_same, get_or-set_other, get_or-replicate}
+use Rattle.std.proofs.lemmas.List.{length-append, length-take-le, length-drop, get_or_append_left, get_or-append_right, get_or-take, get_or-drop, get_or_past, get_or-set_same, get_or-set_other}
 use Rattle.m4_model.specs.Matrix.{Matrix, IsMatrix, row, at}
 use Rattle.m4_model.proofs.MatrixLemmas.{length-table, row-table}
 use Rattle.m4_bits.specs.Bits.{bit}
@@ -107,16 +107,6 @@ at_past A i j is past = ap (λ l. get_or l j 0) (get_or_past A.entries i [] (ome
 -- words that were read down a column, the first k of them
 pub record ReadTo (A : Matrix) (r w k : ℕ) (words : List ℕ) : Type 0 where
   pub done : (i j : ℕ) → i < k → j < 64 → bit_at (get_or words i 0) j ≡ at A (r + i) (w * 64 + j)
-  pub rest : (i : ℕ) → k ≤ i → get_or words i 0 ≡ 0
-
-pub read_none : (A : Matrix) (r w : ℕ) (words : List ℕ) → words ≡ replicate (length words) 0 → ReadTo A r w 0 words
-read_none A r w words zeros = record {
-  done = λ i j below. absurd (omega arith);
-  rest = λ i past. elim (cases_lt i (length words)) [
-    | inl inside ↦ ap (λ l. get_or l i 0) zeros ∙ get_or-replicate (length words) i 0 0 inside
-    | inr outside ↦ get_or_past words i 0 outside
-  ];
-}
 
 pub read_more : (A : Matrix) (r w k word : ℕ) (words : List ℕ) → k < length words → ((j : ℕ) → j < 64 → bit_at word j ≡ at A (r + k) (w * 64 + j))
     → ReadTo A r w k words → ReadTo A r w (k + 1) (set words k word)
@@ -125,15 +115,15 @@ read_more A r w k word words within read so_far = record {
     | inl here ↦ rw here (ap (λ x. bit_at x j) (get_or-set_same words k word 0 within) ∙ read j small)
     | inr away ↦ ap (λ x. bit_at x j) (get_or-set_other words k i word 0 away) ∙ so_far.done i j (omega (arith, away)) small
   ];
-  rest = λ i past. get_or-set_other words k i word 0 (λ is. omega (arith, is)) ∙ so_far.rest i (omega arith);
 }
 
-pub read_all : (A : Matrix) (r w k : ℕ) (words : List ℕ) → IsMatrix A → (k < length words → A.rows ≤ r + k) → ReadTo A r w k words
+pub read_all : (A : Matrix) (r w k : ℕ) (read words : List ℕ) → IsMatrix A → (k < length words → A.rows ≤ r + k) → ReadTo A r w k read
+    → ((i : ℕ) → k ≤ i → get_or words i 0 ≡ 0) → ((i : ℕ) → i < k → get_or words i 0 ≡ get_or read i 0)
     → (i j : ℕ) → i < length words → j < 64 → bit_at (get_or words i 0) j ≡ at A (r + i) (w * 64 + j)
-read_all A r w k words is all so_far i j inside small =
+read_all A r w k read words is all so_far zeros kept i j inside small =
     elim (cases_lt i k) [
-      | inl read ↦ so_far.done i j read small
+      | inl first ↦ ap (λ x. bit_at x j) (kept i first) ∙ so_far.done i j first small
       | inr past ↦
           let end : A.rows ≤ r + k = all (omega arith) in
-          ap (λ x. bit_at x j) (so_far.rest i past) ∙ bit_at-zero j ∙ sym (at_past A (r + i) (w * 64 + j) is (omega arith))
+          ap (λ x. bit_at x j) (zeros i past) ∙ bit_at-zero j ∙ sym (at_past A (r + i) (w * 64 + j) is (omega arith))
     ]

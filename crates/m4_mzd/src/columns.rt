@@ -11,6 +11,17 @@ ghost use Rattle.m4_mzd.specs.Parts.{with_words};
 use crate::win::Win;
 use crate::win_mut::WinMut;
 
+/// Makes the words from a place on 0.
+#[inline]
+fn clear_from(words: &mut [u64], place: usize)
+    ensures zeros { (i : ℕ) → place ≤ i → slice_index words.new i ≡ 0 }
+    ensures kept { (i : ℕ) → i < place → slice_index words.new i ≡ slice_index words.old i }
+{
+    for i in place..words.len() {
+        words[i] = 0;
+    }
+}
+
 impl<'a> Win<'a> {
     /// Reads word `w` of the rows from row `r` on, one to each place of `words`: bit `j` is the entry in column `64 w + j`,
     /// and 0 past the last column and past the last row.
@@ -20,11 +31,11 @@ impl<'a> Win<'a> {
         requires in_words { w < words_per_row (shown self.now).cols }
         ensures { (i j : ℕ) → i < length words.new → j < 64 → bit_at (slice_index words.new i) j ≡ at (shown self.now) (r + i) (w * 64 + j) }
     {
-        words.fill(0);
         let count = words.len().min((self.rows() - r) as usize);
         for i in 0..count {
             words[i] = self.word(r + i as u32, w);
         }
+        clear_from(words, count);
     }
 }
 
