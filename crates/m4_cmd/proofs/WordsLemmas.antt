@@ -1,63 +1,71 @@
 -- Words read from left to right by their index, against the definition that goes over the list.
-use Rattle.std.proofs.Common.{◌≡◌, ℕ, suc, ◌+◌, ◌^◌, ◌<◌, ◌≤◌, List, [], ◌∷◌, Some, None, length, get_or, drop, refl, ◌∙◌, ap, arith, inl, inr, Bool, true, false, Ok, Err, codes, decimal, cond, bytes_eq, nat_lt, ◌&&◌}
+use Rattle.std.proofs.Common.{◌≡◌, Result, ℕ, suc, ◌+◌, ◌^◌, ◌<◌, ◌≤◌, List, [], ◌∷◌, ◌++◌, Some, None, length, get_or, drop, refl, sym, ◌∙◌, ap, arith, Bool, true, false, Ok, Err, decimal, cond, bytes_eq, nat_lt, ◌&&◌}
 use Rattle.std.specs.Str.Parse.{digits_value}
+use Rattle.std.specs.List.{before_first, after_first}
 use Rattle.std.proofs.lemmas.List.{drop_more, drop_all, get_or-map, length-map}
-use Rattle.std.proofs.lemmas.Bool.{false_from_ne_true, ltb-true, lt-ltb, cases_lt}
+use Rattle.std.proofs.lemmas.Bool.{ltb-true, lt-ltb}
 use Rattle.std.proofs.lemmas.Slice.Eq.{bytes_eq-Decides}
 use Rattle.std.proofs.lemmas.Fmt.{decimal_is_IsNumeral}
 use Rattle.std.specs.Prelude.{String, string_bytes}
 use Rattle.std.specs.declared.alloc.Global.{Global}
-use Rattle.m4_model.specs.Words.{job, Kind, FileName, Number, operands_from, no_operands, is_option, number_of, with_file, with_number, verb_of, task_behind}
-use Rattle.m4_cmd.specs.Job.{texts, IsPlainAt, NoPlainAt}
+use Rattle.m4_model.specs.Words.{job, job_of, job_behind, begun, Verb, Kind, FileName, Number, Given, Understood, understand, with_option, is_equals_sign, is_option, number_of, verb_of}
+use Rattle.m4_cmd.specs.Texts.{texts}
+use Rattle.m4_cmd.specs.Progress.{IsOperandNext}
 
--- no word is left, and none is wanted
-pub operands_done : (number i : ℕ) (words : List (List ℕ)) → length words ≤ i → operands_from number [] (drop i words) ≡ Ok no_operands
-unfolding operands_from
-operands_done number i words past = rw (drop_all i words past) refl
+-- what is told so far: the places that are wanted, the numbers, the files and the options
+abbrev so_far : List Kind → List ℕ → List (List ℕ) → Given → Understood
+so_far wanted numbers files given = record { wanted = wanted; numbers = numbers; files = files; given = given }
 
--- a word is left, and none is wanted
-pub operands_too_many : (number i : ℕ) (words : List (List ℕ)) → i < length words → operands_from number [] (drop i words) ≡ Err number
-unfolding operands_from
-operands_too_many number i words within = rw (drop_more words i [] within) refl
+module _ (number next i : ℕ) (words : List (List ℕ)) (kinds : List Kind) (numbers : List ℕ) (files : List (List ℕ)) (given : Given) where
+  -- no word is left, and no place is wanted
+  pub understand-end : length words ≤ i → understand number (drop i words) (so_far [] numbers files given) ≡ Ok (so_far [] numbers files given)
+  unfolding understand
+  understand-end past = rw (drop_all i words past) refl
 
--- no word is left, and one is wanted
-operands_missing : (number i : ℕ) (kind : Kind) (kinds : List Kind) (words : List (List ℕ)) → length words ≤ i → operands_from number (kind ∷ kinds) (drop i words) ≡ Err number
-unfolding operands_from
-operands_missing number i kind kinds words past = rw (drop_all i words past) refl
+  -- no word is left, and a place is wanted
+  pub understand-missing : (kind : Kind) → length words ≤ i → understand number (drop i words) (so_far (kind ∷ kinds) numbers files given) ≡ Err number
+  unfolding understand
+  understand-missing kind past = rw (drop_all i words past) refl
 
--- an option stands where an operand is wanted
-operands_option : (number i : ℕ) (kind : Kind) (kinds : List Kind) (words : List (List ℕ)) → i < length words → is_option (get_or words i []) ≡ true
-    → operands_from number (kind ∷ kinds) (drop i words) ≡ Err number
-unfolding operands_from
-operands_option number i FileName kinds words within option = rw (drop_more words i [] within, option) refl
-operands_option number i Number kinds words within option = rw (drop_more words i [] within, option) refl
+  -- an operand is left, and no place is wanted
+  pub understand-too_many : i < length words → is_option (get_or words i []) ≡ false → understand number (drop i words) (so_far [] numbers files given) ≡ Err number
+  unfolding understand
+  understand-too_many within plain = rw (drop_more words i [] within, plain) refl
 
--- there is no word, or an option, where an operand is wanted
-pub operands_refused : (number i : ℕ) (kind : Kind) (kinds : List Kind) (words : List (List ℕ)) → NoPlainAt words i
-    → operands_from number (kind ∷ kinds) (drop i words) ≡ Err number
-operands_refused number i kind kinds words none = elim (cases_lt i (length words)) [
-  | inl within ↦ operands_option number i kind kinds words within (none within)
-  | inr past ↦ operands_missing number i kind kinds words past
-]
+  -- an option is understood
+  pub understand-option : (word : List ℕ) (more : Given) → next ≡ suc number → i < length words → get_or words i [] ≡ word → is_option word ≡ true
+      → with_option (before_first is_equals_sign word) (after_first is_equals_sign word) given ≡ Some more
+      → understand number (drop i words) (so_far kinds numbers files given) ≡ understand next (drop (i + 1) words) (so_far kinds numbers files more)
+  unfolding understand
+  understand-option word more follows within there option understood = rw (follows, drop_more words i [] within, there, option, understood) refl
 
--- a name is taken
-pub operands_name : (number next i : ℕ) (kinds : List Kind) (words : List (List ℕ)) (word : List ℕ) → next ≡ suc number → IsPlainAt words i word
-    → operands_from number (FileName ∷ kinds) (drop i words) ≡ with_file word (operands_from next kinds (drop (i + 1) words))
-unfolding operands_from
-operands_name number next i kinds words word follows at =
-    let plain = ap is_option at.there ∙ at.plain in
-    rw (follows, ← at.there, drop_more words i [] at.within, plain) refl
+  -- an option is refused
+  pub understand-no_option : (word : List ℕ) → i < length words → get_or words i [] ≡ word → is_option word ≡ true
+      → with_option (before_first is_equals_sign word) (after_first is_equals_sign word) given ≡ None
+      → understand number (drop i words) (so_far kinds numbers files given) ≡ Err number
+  unfolding understand
+  understand-no_option word within there option refused = rw (drop_more words i [] within, there, option, refused) refl
 
--- a number is taken, or isn't one
-pub operands_number : (number next i : ℕ) (kinds : List Kind) (words : List (List ℕ)) (word : List ℕ) → next ≡ suc number → IsPlainAt words i word
-    → operands_from number (Number ∷ kinds) (drop i words) ≡ with_number number (number_of word) (operands_from next kinds (drop (i + 1) words))
-unfolding operands_from
-operands_number number next i kinds words word follows at =
-    let plain = ap is_option at.there ∙ at.plain in
-    rw (follows, ← at.there, drop_more words i [] at.within, plain) refl
+  -- a name is taken
+  pub understand-name : (word : List ℕ) → next ≡ suc number → i < length words → get_or words i [] ≡ word → is_option word ≡ false
+      → understand number (drop i words) (so_far (FileName ∷ kinds) numbers files given) ≡ understand next (drop (i + 1) words) (so_far kinds numbers (files ++ word ∷ []) given)
+  unfolding understand
+  understand-name word follows within there plain = rw (follows, drop_more words i [] within, there, plain) refl
+
+  -- a number is taken
+  pub understand-number : (word : List ℕ) (n : ℕ) → next ≡ suc number → i < length words → get_or words i [] ≡ word → is_option word ≡ false → number_of word ≡ Some n
+      → understand number (drop i words) (so_far (Number ∷ kinds) numbers files given) ≡ understand next (drop (i + 1) words) (so_far kinds (numbers ++ n ∷ []) files given)
+  unfolding understand
+  understand-number word n follows within there plain is = rw (follows, drop_more words i [] within, there, plain, is) refl
+
+  -- no number stands in the place of one
+  pub understand-no_number : (word : List ℕ) → i < length words → get_or words i [] ≡ word → is_option word ≡ false → number_of word ≡ None
+      → understand number (drop i words) (so_far (Number ∷ kinds) numbers files given) ≡ Err number
+  unfolding understand
+  understand-no_number word within there plain is = rw (drop_more words i [] within, there, plain, is) refl
 
 -- the first word is a verb, or none
-pub job-first : (words : List (List ℕ)) (word : List ℕ) → 0 < length words → get_or words 0 [] ≡ word → job words ≡ task_behind (verb_of word) (drop 1 words)
+pub job-first : (words : List (List ℕ)) (word : List ℕ) → 0 < length words → get_or words 0 [] ≡ word → job words ≡ job_behind (verb_of word) (drop 1 words)
 unfolding job
 job-first [] word within first = absurd (omega arith)
 job-first (w ∷ words) word within first = rw first refl
@@ -67,14 +75,6 @@ pub job-none : (words : List (List ℕ)) → length words ≡ 0 → job words �
 unfolding job
 job-none [] none = refl
 job-none (word ∷ words) none = absurd (omega arith)
-
--- a word that differs from a text
-differs : (word text : List ℕ) → (word ≡ text → ⊥) → bytes_eq word text ≡ false
-differs word text other = false_from_ne_true _ (λ same. other ((bytes_eq-Decides word text).0 same))
-
--- a word that is no verb
-pub no_verb : (word : List ℕ) → (word ≡ codes "mul" → ⊥) → (word ≡ codes "addmul" → ⊥) → verb_of word ≡ None
-no_verb word not_mul not_addmul = rw (differs word (codes "mul") not_mul, differs word (codes "addmul") not_addmul) refl
 
 -- a word in decimal
 pub number-decimal : (word : List ℕ) (n : ℕ) → n < 10 ^ 9 → word ≡ decimal n → number_of word ≡ Some n
@@ -103,3 +103,25 @@ length-texts words = length-map words string_bytes
 -- the text of a word
 pub text_at : (words : List (String Global)) (i : ℕ) (word : String Global) → i < length words → get_or words i word ≡ word → get_or (texts words) i [] ≡ string_bytes word
 text_at words i word within is = get_or-map string_bytes words i word [] within ∙ ap string_bytes is
+
+-- a word that is no option, where an operand is next
+pub plain_word : (words : List (String Global)) (i : ℕ) (word : String Global) (text : List ℕ) → i < length words → get_or words i word ≡ word → text ≡ string_bytes word
+    → IsOperandNext (texts words) i → (i < length (texts words)) × (get_or (texts words) i [] ≡ text) × (is_option text ≡ false)
+plain_word words i word text within is bytes operand =
+    let inside : i < length (texts words) = rw (length-texts words) within in
+    let there = text_at words i word within is ∙ sym bytes in
+    (inside, there, ap is_option (sym there) ∙ operand inside)
+
+-- the job of a verb, from what the words behind it tell
+pub job-told : (words : List (String Global)) (first : String Global) (text : List ℕ) (verb : Verb) (told : Result Understood ℕ) → 0 < length words → get_or words 0 first ≡ first
+    → text ≡ string_bytes first → verb_of text ≡ Some verb → understand 2 (drop 1 (texts words)) (begun verb) ≡ told → job (texts words) ≡ job_of verb told
+job-told words first text verb told within is bytes says tells =
+    let inside : 0 < length (texts words) = rw (length-texts words) within in
+    job-first (texts words) text inside (text_at words 0 first within is ∙ sym bytes) ∙ (ap (λ v. job_behind v (drop 1 (texts words))) says ∙ ap (job_of verb) tells)
+
+-- the first word is no verb
+pub job-no_verb : (words : List (String Global)) (first : String Global) (text : List ℕ) → 0 < length words → get_or words 0 first ≡ first
+    → text ≡ string_bytes first → verb_of text ≡ None → job (texts words) ≡ Err 1
+job-no_verb words first text within is bytes says =
+    let inside : 0 < length (texts words) = rw (length-texts words) within in
+    job-first (texts words) text inside (text_at words 0 first within is ∙ sym bytes) ∙ ap (λ v. job_behind v (drop 1 (texts words))) says

@@ -1,26 +1,34 @@
--- The words and jobs of the code, as the definitions see them.
-use Rattle.std.specs.Prelude.{◌≡◌, ◌<◌, length, slice_index_or, true, false, ℕ, List, [], ◌∷◌, map, String, string_bytes}
-use Rattle.std.specs.declared.alloc.Global.{Global}
-use Rattle.m4_model.specs.Words.{Mul, Addmul, is_option}
-use Rattle.m4_model.specs.Words.{Task as Asked}
+-- The commands and jobs of the code, as the definitions see them.
+use Rattle.std.specs.Prelude.{ℕ, List, [], ◌∷◌}
+use Rattle.m4_model.specs.Words.{Command, Mul, Addmul, Convert, Verb, MulVerb, AddmulVerb, ConvertVerb}
+use Rattle.m4_model.specs.Words.{Job as Asked}
+use Rattle.m4_cmd.specs.Options.{choices_told}
 use Rattle.m4_cmd.specs.declared.words.Task.{Task}
 use Rattle.m4_cmd.specs.declared.words.Task.TheVariants as tasks
+use Rattle.m4_cmd.specs.declared.words.Verb.{Verb as FirstWord}
+use Rattle.m4_cmd.specs.declared.words.Verb.TheVariants as verbs
+use Rattle.m4_cmd.specs.declared.words.Job.{Job}
 
--- The bytes of each word.
-abbrev pub texts : List (String Global) → List (List ℕ)
-texts words = map string_bytes words
+abbrev pub verb_told : FirstWord → Verb
+verb_told verbs.Mul = MulVerb
+verb_told verbs.Addmul = AddmulVerb
+verb_told verbs.Convert = ConvertVerb
 
--- A task of the code as the command and the names of its files.
-abbrev pub task_of_job : Task → Asked
-task_of_job (tasks.Mul a b) = record { command = Mul; files = a.now ∷ b.now ∷ [] }
-task_of_job (tasks.Addmul c r0 c0 a b) = record { command = Addmul r0 c0; files = c.now ∷ a.now ∷ b.now ∷ [] }
+-- What a task asks for, the numbers among its operands, and the names of its files.
+abbrev pub command_told : Task → Command
+command_told (tasks.Mul a b) = Mul
+command_told (tasks.Addmul c r0 c0 a b) = Addmul r0 c0
+command_told (tasks.Convert a) = Convert
 
--- This word stands at the index, and is no option.
-pub record IsPlainAt (words : List (List ℕ)) (index : ℕ) (word : List ℕ) : Type 0 where
-  pub within : index < length words
-  pub there : slice_index_or words index [] ≡ word
-  pub plain : is_option word ≡ false
+abbrev pub numbers_told : Task → List ℕ
+numbers_told (tasks.Mul a b) = []
+numbers_told (tasks.Addmul c r0 c0 a b) = r0 ∷ c0 ∷ []
+numbers_told (tasks.Convert a) = []
 
--- No word stands at the index but an option.
-abbrev pub NoPlainAt : List (List ℕ) → ℕ → Type 0
-NoPlainAt words index = index < length words → is_option (slice_index_or words index []) ≡ true
+abbrev pub files_told : Task → List (List ℕ)
+files_told (tasks.Mul a b) = a.now ∷ b.now ∷ []
+files_told (tasks.Addmul c r0 c0 a b) = c.now ∷ a.now ∷ b.now ∷ []
+files_told (tasks.Convert a) = a.now ∷ []
+
+abbrev pub job_told : Job → Asked
+job_told asked = record { command = command_told asked.task; files = files_told asked.task; choices = choices_told asked.choices }

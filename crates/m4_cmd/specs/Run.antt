@@ -1,7 +1,7 @@
 -- What `run` says of its answer: the causes of each status, and what was written.
 use Rattle.std.specs.Prelude.{◌≡◌, ℕ, ◌⊎◌, List, Option, Some, Ok}
 use Rattle.std.specs.Io.KnownBytes.{Appends}
-use Rattle.m4_model.specs.Words.{Task, job}
+use Rattle.m4_model.specs.Words.{Job, job}
 use Rattle.m4_model.specs.Outcome.{Stock, MissingOperand, Outcome, fault_line}
 use Rattle.m4_model.specs.declared.status.Status.{Status}
 use Rattle.m4_model.specs.declared.status.Status.TheVariants.{Done, No, Words, Text, Shape, Limit, Read, Write, Memory}
@@ -9,7 +9,7 @@ use Rattle.m4_io.specs.Outside.{Rose, AppendsFront}
 
 -- The words are a job.
 abbrev pub IsAsked : List (List ℕ) → Type 0
-IsAsked words = (task : Task) × (job words ≡ Ok task)
+IsAsked words = (asked : Job) × (job words ≡ Ok asked)
 
 -- An answer was written.
 abbrev pub IsAnswered : Status → Type 0

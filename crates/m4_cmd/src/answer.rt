@@ -1,64 +1,48 @@
-ghost use Rattle.std.specs.Prelude.{◌≡◌, ◌+◌, IfOk, IfErr, [], ◌∷◌};
-ghost use Rattle.m4_model.specs.Outcome.{HasRoom};
-ghost use Rattle.m4_model.specs.Text.{IsWithinLimits};
-ghost use Rattle.m4_model.specs.Words.{Mul, Addmul};
-ghost use Rattle.m4_cmd.specs.Steps.{IsGoodAnswer, AnswerFails};
+ghost use Rattle.m4_model.specs.Outcome.{OneMatrix};
+ghost use Rattle.m4_text.specs.Forms.{text_form};
+ghost use Rattle.m4_cmd.specs.Answer.{answer_told};
+ghost use Rattle.m4_cmd.specs.Steps.{WriteGives};
 
-use crate::product::{add_product, multiply};
-use m4_model::{NoMemory, Status};
-use m4_mzd::{Mzd, Rect};
-use m4_text::within_limits;
-use std::alloc::Global;
+use m4_io::Sink;
+use m4_model::Status;
+use m4_mzd::Mzd;
+use m4_text::{Form, WriteFault, can_write, write_as};
 
-/// The answer of `mul`: the product, where the shapes fit and it is within the limits.
-pub(crate) fn mul_answer(alloc: Global, a: &Mzd, b: &Mzd) -> Result<Mzd, Status>
-    ensures good { IfOk result (IsGoodAnswer Mul (a.now ∷ b.now ∷ [])) }
-    ensures fails { IfErr result (AnswerFails Mul (a.now ∷ b.now ∷ [])) }
+/// What a command answers.
+#[derive(Drop)]
+pub(crate) enum Answer {
+    /// One matrix.
+    Matrix(Mzd),
+}
+
+/// Writes the text of an answer. One matrix is written in this form, where the form can hold it.
+pub(crate) fn write_answer<O: Sink>(answer: &Answer, form: Form, out: &mut O) -> Status
+    ensures { WriteGives (text_form form) (answer_told answer.now) (record {
+      before = O.faults out.old;
+      now = O.faults out.new;
+      taken_before = O.taken out.old;
+      taken_now = O.taken out.new;
+    }) result }
 {
-    if a.cols() != b.rows() {
-        return Err(Status::Shape);
-    }
-    if !within_limits(a.rows(), b.cols()) {
-        return Err(Status::Limit);
-    }
-    match multiply(alloc, a, b) {
-        Ok(product) => Ok(product),
-        Err(NoMemory) => Err(Status::Memory),
+    match answer {
+        Answer::Matrix(matrix) => write_matrix(matrix, form, out),
     }
 }
 
-/// The answer of `addmul`: `c` with the product of `a` and `b` added to the rectangle of its shape at row `r0` and column
-/// `c0`, where the shapes fit and the rectangle begins at a word and lies within `c`.
-pub(crate) fn addmul_answer(c: Mzd, r0: u32, c0: u32, a: &Mzd, b: &Mzd) -> Result<Mzd, Status>
-    requires limits { IsWithinLimits c.rows c.cols }
-    ensures good { IfOk result (IsGoodAnswer (Addmul r0 c0) (c ∷ a.now ∷ b.now ∷ [])) }
-    ensures fails { IfErr result (AnswerFails (Addmul r0 c0) (c ∷ a.now ∷ b.now ∷ [])) }
+/// Writes the text of one matrix in this form, where the form can hold it.
+fn write_matrix<O: Sink>(matrix: &Mzd, form: Form, out: &mut O) -> Status
+    ensures { WriteGives (text_form form) (OneMatrix matrix.now) (record {
+      before = O.faults out.old;
+      now = O.faults out.new;
+      taken_before = O.taken out.old;
+      taken_now = O.taken out.new;
+    }) result }
 {
-    if a.cols() != b.rows() {
-        return Err(Status::Shape);
+    if !can_write(matrix, form) {
+        return Status::Shape;
     }
-    let rect = room_for(&c, r0, c0, a.rows(), b.cols())?;
-    let mut sum = c;
-    add_product(&mut sum, rect, a, b);
-    Ok(sum)
-}
-
-/// The rectangle of `c` of so many rows and columns at row `r0` and column `c0`, where it begins at a word and lies within
-/// `c`.
-fn room_for(c: &Mzd, r0: u32, c0: u32, rows: u32, cols: u32) -> Result<Rect, Status>
-    ensures room { IfOk result (λ rect. HasRoom c.now r0 c0 rows cols) }
-    ensures rect { IfOk result (λ rect. rect ≡ record { r0 = r0; c0 = c0; r1 = r0 + rows; c1 = c0 + cols }) }
-    ensures shape { IfErr result (λ status. status ≡ Status.Shape) }
-    ensures none { IfErr result (λ status. HasRoom c.now r0 c0 rows cols → ⊥) }
-{
-    let (high, wide) = (c.rows(), c.cols());
-    if r0 > high || rows > high - r0 || c0 > wide || cols > wide - c0 || c0 % 64 != 0 {
-        return Err(Status::Shape);
+    match write_as(matrix, form, out) {
+        Ok(()) => Status::Done,
+        Err(WriteFault::Failed) => Status::Write,
     }
-    Ok(Rect {
-        r0,
-        c0,
-        r1: r0 + rows,
-        c1: c0 + cols,
-    })
 }

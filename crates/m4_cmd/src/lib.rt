@@ -2,19 +2,22 @@
 #![tactic(auto)]
 
 mod answer;
-mod choices;
+mod commands;
 mod fault_line;
 mod gate;
 mod operand;
+mod options;
 mod product;
 mod program;
+mod progress;
 #[cfg(test)]
 mod tests;
 mod words;
 
-pub use choices::{Algo, Choices, Form, Packing};
 pub use gate::{Gate, OpenGate};
 pub use m4_io::{Failed, FileShelf, MemShelf, MemSink, Shelf, Sink, StreamSink};
 pub use m4_model::Status;
+pub use m4_text::Form;
+pub use options::Choices;
 pub use program::run;
 pub use words::{Job, Task, WordFault, job_of};

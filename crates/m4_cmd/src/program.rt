@@ -1,22 +1,20 @@
-ghost use Rattle.std.specs.Prelude.{◌≡◌, ◌<◌, ◌⊎◌, ◌↔◌, ℕ, Some, Err, IfOk, IfErr, OnOk, [], ◌∷◌};
+ghost use Rattle.std.specs.Prelude.{◌≡◌, ◌<◌, ◌⊎◌, ◌↔◌, ℕ, Some, Err};
 ghost use Rattle.std.specs.Io.KnownBytes.{Keeps};
-ghost use Rattle.m4_model.specs.Text.{text};
-ghost use Rattle.m4_model.specs.Words.{job, Mul, Addmul};
+ghost use Rattle.m4_model.specs.Words.{job};
 ghost use Rattle.m4_model.specs.Outcome.{Stock};
 ghost use Rattle.m4_io.specs.Outside.{Rose};
-ghost use Rattle.m4_cmd.specs.Job.{texts, task_of_job};
+ghost use Rattle.m4_cmd.specs.Texts.{texts};
+ghost use Rattle.m4_cmd.specs.Job.{job_told};
 ghost use Rattle.m4_cmd.specs.Run.{IsAsked, IsAnswered, IsJudged, IsRefused, LacksOperand, Answers, AnswersInPart, Reports};
-ghost use Rattle.m4_cmd.specs.Steps.{TaskGives, WorkGives, EndsUnwritten, IsTaskAnswer, WriteGives};
+ghost use Rattle.m4_cmd.specs.Steps.{JobGives, WorkGives};
 
-use crate::answer::{addmul_answer, mul_answer};
+use crate::answer::write_answer;
+use crate::commands::answer_of;
 use crate::fault_line::line_of;
 use crate::gate::Gate;
-use crate::operand::{read_three, read_two};
-use crate::words::{Task, job_of};
+use crate::words::{Job, job_of};
 use m4_io::{Shelf, Sink, write_whole};
 use m4_model::Status;
-use m4_mzd::Mzd;
-use m4_text::{WriteFault, write_text};
 use std::alloc::Global;
 
 /// Does what the words ask for: reads the operands, computes the answer, writes its text to `out`, and a line on
@@ -24,8 +22,8 @@ use std::alloc::Global;
 ///
 /// The words are those after the program's name. Each file operand in order is read to its end, or to its first
 /// fault, before the next. The first refusal is the answer, in this order: the words; each operand's reading, its
-/// text and its limits; the shapes; the limits of the answer; the writing. Where no answer is begun, nothing is
-/// written to `out`.
+/// text and its limits; the shapes; the limits of the answer; an answer that its form can't hold; the writing. Where no
+/// answer is begun, nothing is written to `out`.
 pub fn run<S: Shelf, O: Sink, R: Sink, G: Gate + Sync>(
     alloc: Global,
     words: &[String],
@@ -81,88 +79,37 @@ fn work<S: Shelf, O: Sink>(alloc: Global, words: &[String], shelf: &mut S, out: 
     ensures gives { WorkGives (S.stock shelf.old) (texts words.now) (record {
       read_before = S.faults shelf.old;
       read_now = S.faults shelf.new;
-      write_before = O.faults out.old;
-      write_now = O.faults out.new;
-      taken_before = O.taken out.old;
-      taken_now = O.taken out.new;
+      out = record {
+        before = O.faults out.old;
+        now = O.faults out.new;
+        taken_before = O.taken out.old;
+        taken_now = O.taken out.new;
+      };
     }) result }
 {
     match job_of(words) {
-        Ok(job) => perform(alloc, &job.task, shelf, out),
+        Ok(job) => perform(alloc, &job, shelf, out),
         Err(fault) => Status::Words(fault.word),
     }
 }
 
-/// Does a task: computes its answer, and writes it.
-fn perform<S: Shelf, O: Sink>(alloc: Global, task: &Task, shelf: &mut S, out: &mut O) -> Status
+/// Does a job: computes its answer, and writes it.
+fn perform<S: Shelf, O: Sink>(alloc: Global, job: &Job, shelf: &mut S, out: &mut O) -> Status
     ensures stock { S.stock shelf.new ≡ S.stock shelf.old }
-    ensures gives { TaskGives (S.stock shelf.old) (task_of_job task.now) (record {
+    ensures gives { JobGives (S.stock shelf.old) (job_told job.now) (record {
       read_before = S.faults shelf.old;
       read_now = S.faults shelf.new;
-      write_before = O.faults out.old;
-      write_now = O.faults out.new;
-      taken_before = O.taken out.old;
-      taken_now = O.taken out.new;
+      out = record {
+        before = O.faults out.old;
+        now = O.faults out.new;
+        taken_before = O.taken out.old;
+        taken_now = O.taken out.new;
+      };
     }) result }
 {
-    match answer_of(alloc, task, shelf) {
-        Ok(answer) => write_answer(&answer, out),
+    match answer_of(alloc, job, shelf) {
+        Ok(answer) => write_answer(&answer, job.choices.into, out),
         Err(status) => status,
-    }
-}
-
-/// The answer of a task.
-fn answer_of<S: Shelf>(alloc: Global, task: &Task, shelf: &mut S) -> Result<Mzd, Status>
-    ensures stock { S.stock shelf.new ≡ S.stock shelf.old }
-    ensures answer { IfOk result (IsTaskAnswer (S.stock shelf.old) (task_of_job task.now)) }
-    ensures kept { OnOk result (S.faults shelf.new ≡ S.faults shelf.old) }
-    ensures fails { IfErr result (EndsUnwritten (S.stock shelf.old) (task_of_job task.now) (S.faults shelf.old) (S.faults shelf.new)) }
-{
-    match task {
-        Task::Mul { a, b } => mul(alloc, shelf, a, b),
-        Task::Addmul { c, r0, c0, a, b } => addmul(alloc, shelf, c, (*r0, *c0), a, b),
-    }
-}
-
-/// The answer of `mul`.
-fn mul<S: Shelf>(alloc: Global, shelf: &mut S, a: &str, b: &str) -> Result<Mzd, Status>
-    ensures stock { S.stock shelf.new ≡ S.stock shelf.old }
-    ensures answer { IfOk result (IsTaskAnswer (S.stock shelf.old) (record { command = Mul; files = a.now ∷ b.now ∷ [] })) }
-    ensures kept { OnOk result (S.faults shelf.new ≡ S.faults shelf.old) }
-    ensures fails { IfErr result (EndsUnwritten (S.stock shelf.old) (record { command = Mul; files = a.now ∷ b.now ∷ [] })
-        (S.faults shelf.old) (S.faults shelf.new)) }
-{
-    let (left, right) = read_two(alloc, shelf, a, b)?;
-    mul_answer(alloc, &left, &right)
-}
-
-/// The answer of `addmul` at a place, its row and its column.
-fn addmul<S: Shelf>(
-    alloc: Global,
-    shelf: &mut S,
-    c: &str,
-    place: (u32, u32),
-    a: &str,
-    b: &str,
-) -> Result<Mzd, Status>
-    ensures stock { S.stock shelf.new ≡ S.stock shelf.old }
-    ensures answer { IfOk result (IsTaskAnswer (S.stock shelf.old)
-        (record { command = Addmul place.0 place.1; files = c.now ∷ a.now ∷ b.now ∷ [] })) }
-    ensures kept { OnOk result (S.faults shelf.new ≡ S.faults shelf.old) }
-    ensures fails { IfErr result (EndsUnwritten (S.stock shelf.old)
-        (record { command = Addmul place.0 place.1; files = c.now ∷ a.now ∷ b.now ∷ [] }) (S.faults shelf.old) (S.faults shelf.new)) }
-{
-    let (sum, left, right) = read_three(alloc, shelf, c, a, b)?;
-    addmul_answer(sum, place.0, place.1, &left, &right)
-}
-
-/// Writes the text of an answer.
-fn write_answer<O: Sink>(answer: &Mzd, out: &mut O) -> Status
-    ensures { WriteGives (O.taken out.old) (O.taken out.new) (O.faults out.old) (O.faults out.new) (text answer.now) result }
-{
-    match write_text(answer, out) {
-        Ok(()) => Status::Done,
-        Err(WriteFault::Failed) => Status::Write,
     }
 }
 

@@ -179,27 +179,164 @@ fn products_that_are_not_added(rt: HostRuntime) -> Result<(), Fail> {
     Ok(())
 }
 
+/// Words that are refused, and the number of the first.
+const REFUSED_WORDS: [(&[&str], u64); 21] = [
+    (&[], 1),
+    (&["multiply", "A", "B"], 1),
+    (&["--in=text", "mul", "A", "B"], 1),
+    (&["mul", "A"], 3),
+    (&["mul", "A", "--out=jcf"], 4),
+    (&["mul", "A", "B", "C"], 4),
+    (&["mul", "--k=9", "A", "B"], 2),
+    (&["mul", "--k=08", "A", "B"], 2),
+    (&["mul", "A", "B", "--in=text", "--in=text"], 5),
+    (
+        &["mul", "--out=bare", "A", "--in=bare", "--out=jcf", "B"],
+        5,
+    ),
+    (&["convert", "A", "--in=hex"], 3),
+    (&["convert", "A", "--in"], 3),
+    (&["convert", "A", "--in=bare=jcf"], 3),
+    (&["convert", "--", "A"], 2),
+    (&["convert", "A", "A", "--in=hex"], 3),
+    (&["addmul", "C", "1", "64", "A"], 6),
+    (&["addmul", "C", "1", "64", "A", "B", "C"], 7),
+    (&["addmul", "C", "01", "64", "A", "B"], 3),
+    (&["addmul", "C", "1", "+64", "A", "B"], 4),
+    (&["addmul", "C", "1", "1000000000", "A", "B"], 4),
+    (&["addmul", "C", "", "64", "--", "B"], 3),
+];
+
 #[test]
 fn words(rt: HostRuntime) -> Result<(), Fail> {
-    let none: [&str; 0] = [];
-    for (words, word) in [
-        (none.as_slice(), 1),
-        (["multiply", "A", "B"].as_slice(), 1),
-        (["mul", "A"].as_slice(), 3),
-        (["mul", "A", "B", "C"].as_slice(), 4),
-        (["mul", "--k=9", "A", "B"].as_slice(), 2),
-        (["mul", "--k=08", "A", "B"].as_slice(), 2),
-        (["addmul", "C", "1", "64", "A"].as_slice(), 6),
-        (["addmul", "C", "1", "64", "A", "B", "C"].as_slice(), 7),
-        (["addmul", "C", "01", "64", "A", "B"].as_slice(), 3),
-        (["addmul", "C", "1", "+64", "A", "B"].as_slice(), 4),
-        (["addmul", "C", "1", "1000000000", "A", "B"].as_slice(), 4),
-        (["addmul", "C", "", "64", "--", "B"].as_slice(), 3),
-    ] {
+    for (words, word) in REFUSED_WORDS {
         let ended = run_on(rt.alloc(), words, LEFT, RIGHT, &AMPLE)?;
         let line = format!(in rt.alloc(); "m4lin: word {word} is not understood\n")?;
         assert_ended(&rt, &ended, Status::Words(word), b"", line.as_str());
     }
+    Ok(())
+}
+
+/// Options of `convert`, the text of its operand, the status and the text of its answer.
+const CONVERSIONS: [(&[&str], &str, Status, &str); 24] = [
+    (&[], "gf2 1 2\n01\n", Status::Done, "gf2 1 2\n01\n"),
+    (
+        &["--out=bare"],
+        "gf2 2 2\n10\n01\n",
+        Status::Done,
+        "10\n01\n",
+    ),
+    (&["--out=bare"], "gf2 2 0\n\n\n", Status::Done, "\n\n"),
+    (&["--out=bare"], "gf2 0 3\n", Status::Shape, ""),
+    (&["--out=bare"], "gf2 0 0\n", Status::Done, ""),
+    (&["--out=jcf"], "gf2 2 2\n00\n01\n", Status::Shape, ""),
+    (
+        &["--out=jcf"],
+        "gf2 2 2\n01\n00\n",
+        Status::Done,
+        "2 2 2\n1\n-2\n",
+    ),
+    (
+        &["--in=jcf"],
+        "2 3 2\n3\n-1 3 -2\n",
+        Status::Done,
+        "gf2 2 3\n101\n010\n",
+    ),
+    (
+        &["--in=jcf"],
+        "1 2 2\n2\n-1 1\n",
+        Status::Done,
+        "gf2 1 2\n10\n",
+    ),
+    (
+        &["--in=jcf", "--out=jcf"],
+        "2 3 2\n3\n-1 3 -2\n",
+        Status::Done,
+        "2 3 2\n3\n-1 3\n-2\n",
+    ),
+    (
+        &["--in=jcf"],
+        "2 3 2\n3\n-4\n",
+        Status::Text { operand: 1, at: 8 },
+        "",
+    ),
+    (
+        &["--in=jcf"],
+        "2 3 3\n1\n-1\n",
+        Status::Text { operand: 1, at: 4 },
+        "",
+    ),
+    (
+        &["--in=jcf"],
+        "2 3 2\n1\n1\n",
+        Status::Text { operand: 1, at: 8 },
+        "",
+    ),
+    (
+        &["--in=jcf"],
+        "2 3 2\n1\n-0\n",
+        Status::Text { operand: 1, at: 8 },
+        "",
+    ),
+    (
+        &["--in=jcf"],
+        "1 3 2\n2\n-1 -2\n",
+        Status::Text { operand: 1, at: 11 },
+        "",
+    ),
+    (
+        &["--in=jcf"],
+        "1 3 2\n1\n-1 x\n",
+        Status::Text { operand: 1, at: 11 },
+        "",
+    ),
+    (&["--in=jcf"], "2 3", Status::Text { operand: 1, at: 3 }, ""),
+    (
+        &["--in=bare"],
+        "10\n01\n",
+        Status::Done,
+        "gf2 2 2\n10\n01\n",
+    ),
+    (&["--in=bare"], "", Status::Done, "gf2 0 0\n"),
+    (
+        &["--in=bare"],
+        "10\n1\n",
+        Status::Text { operand: 1, at: 4 },
+        "",
+    ),
+    (
+        &[],
+        "gf2 2 2\n11\n0",
+        Status::Text { operand: 1, at: 12 },
+        "",
+    ),
+    (&[], "gf2 1 1\n1", Status::Text { operand: 1, at: 9 }, ""),
+    (&[], "gf2 65537 1\n", Status::Limit, ""),
+    (
+        &[],
+        "gf2 16384 16384\n",
+        Status::Text { operand: 1, at: 16 },
+        "",
+    ),
+];
+
+#[test]
+fn conversions(rt: HostRuntime) -> Result<(), Fail> {
+    for (options, text, status, answer) in CONVERSIONS {
+        let mut words = Vec::from_slice(rt.alloc(), &["convert", "A"])?;
+        words.extend_from_slice(options)?;
+        let ended = run_on(rt.alloc(), &words, text.as_bytes(), b"", &AMPLE)?;
+        assert_eq!(rt; ended.status, status, "{text:?}");
+        assert_eq!(rt; ended.out.taken(), answer.as_bytes(), "{text:?}");
+    }
+    Ok(())
+}
+
+#[test]
+fn options_stand_anywhere(rt: HostRuntime) -> Result<(), Fail> {
+    let words = ["mul", "--in=bare", "A", "B", "--out=jcf"];
+    let ended = run_on(rt.alloc(), &words, b"11\n01\n", b"10\n11\n", &AMPLE)?;
+    assert_ended(&rt, &ended, Status::Done, b"2 2 2\n3\n-2\n-1 2\n", "");
     Ok(())
 }
 

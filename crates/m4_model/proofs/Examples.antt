@@ -1,11 +1,10 @@
 -- The definitions on small cases that a reader can work by hand.
-use Rattle.std.proofs.Common.{◌≡◌, ℕ, List, [], ◌∷◌, refl, Ok, Err, codes, arith}
+use Rattle.std.proofs.Common.{◌≡◌, ℕ, List, [], ◌∷◌, refl, codes, arith}
 use Rattle.std.specs.Fmt.{digits}
 use Rattle.m4_model.specs.Field.{gf2, IsExtension, clmul, mul, sum_below, bits_within, rem_within}
 use Rattle.m4_model.specs.Matrix.{Matrix, table, product}
 use Rattle.m4_model.specs.Shapes.{transposed, above, beside, cut, replace, swaps, exchanged}
 use Rattle.m4_model.specs.Text.{text}
-use Rattle.m4_model.specs.Words.{job, operands_from, Mul, Addmul}
 
 -- a matrix over GF(2)
 abbrev pub bits : ℕ → ℕ → List (List ℕ) → Matrix
@@ -73,53 +72,3 @@ a_part_replaced = refl
 exchanges : swaps 3 (2 ∷ 2 ∷ 2 ∷ []) ≡ 2 ∷ 0 ∷ 1 ∷ []
 unfolding exchanged
 exchanges = refl
-
--- words that are a job, and words that are none
-asks_for_a_product : job (codes "mul" ∷ codes "A" ∷ codes "B" ∷ []) ≡ Ok (record { command = Mul; files = codes "A" ∷ codes "B" ∷ [] })
-unfolding job operands_from digits
-asks_for_a_product = refl
-
-no_words : job [] ≡ Err 1
-unfolding job
-no_words = refl
-
-no_command : job (codes "multiply" ∷ []) ≡ Err 1
-unfolding job operands_from digits
-no_command = refl
-
-a_file_too_few : job (codes "mul" ∷ codes "A" ∷ []) ≡ Err 3
-unfolding job operands_from digits
-a_file_too_few = refl
-
-a_file_too_many : job (codes "mul" ∷ codes "A" ∷ codes "B" ∷ codes "C" ∷ []) ≡ Err 4
-unfolding job operands_from digits
-a_file_too_many = refl
-
-no_such_option : job (codes "mul" ∷ codes "--k=9" ∷ codes "A" ∷ codes "B" ∷ []) ≡ Err 2
-unfolding job operands_from digits
-no_such_option = refl
-
-an_option_in_place_of_a_file : job (codes "mul" ∷ codes "--k=9" ∷ []) ≡ Err 2
-unfolding job operands_from digits
-an_option_in_place_of_a_file = refl
-
-numbers_of_a_place : job (codes "addmul" ∷ codes "C" ∷ codes "1" ∷ codes "64" ∷ codes "A" ∷ codes "B" ∷ [])
-    ≡ Ok (record { command = Addmul 1 64; files = codes "C" ∷ codes "A" ∷ codes "B" ∷ [] })
-unfolding job operands_from digits
-numbers_of_a_place = refl
-
-no_leading_zero : job (codes "addmul" ∷ codes "C" ∷ codes "01" ∷ codes "64" ∷ codes "A" ∷ codes "B" ∷ []) ≡ Err 3
-unfolding job operands_from digits
-no_leading_zero = refl
-
-too_long_a_number : job (codes "addmul" ∷ codes "C" ∷ codes "1" ∷ codes "1000000000" ∷ codes "A" ∷ codes "B" ∷ []) ≡ Err 4
-unfolding job operands_from digits
-too_long_a_number = refl
-
-no_number : job (codes "addmul" ∷ codes "C" ∷ codes "A" ∷ []) ≡ Err 3
-unfolding job operands_from digits
-no_number = refl
-
-a_place_missing : job (codes "addmul" ∷ codes "C" ∷ codes "1" ∷ []) ≡ Err 4
-unfolding job operands_from digits
-a_place_missing = refl

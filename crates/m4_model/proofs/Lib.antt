@@ -24,6 +24,7 @@ pub mod Remainder
 pub mod FieldProofs
 pub mod Gf2Lemmas
 mod Examples
+mod WordsExamples
 mod ExampleTests
 mod ExamplesForms
 mod TextExamples

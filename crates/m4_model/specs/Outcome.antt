@@ -2,8 +2,9 @@
 use Rattle.std.specs.Prelude.{◌≡◌, ℕ, ◌+◌, ◌%◌, ◌≤◌, ◌⊎◌, List, [], ◌∷◌, ◌++◌, length, Option, Some, None, option_map, find, bytes_eq, Ok, Err, codes, decimal}
 use Rattle.m4_model.specs.Matrix.{Matrix, added, product}
 use Rattle.m4_model.specs.Shapes.{cut, replace}
-use Rattle.m4_model.specs.Text.{text, Reads, Refusal, Fault, BadAt, PastLimit, IsWithinLimits}
-use Rattle.m4_model.specs.Words.{Command, Mul, Addmul, Task, job}
+use Rattle.m4_model.specs.Text.{Fault, BadAt, PastLimit, IsWithinLimits}
+use Rattle.m4_model.specs.Texts.{TextForm, can_hold, text_as, ReadsAs, RefusalAs}
+use Rattle.m4_model.specs.Words.{Command, Mul, Addmul, Convert, Job, job}
 use Rattle.m4_model.specs.declared.status.Status.{Status}
 use Rattle.m4_model.specs.declared.status.Status.TheVariants.{Done, No, Words, Text, Shape, Limit, Read, Write, Memory}
 
@@ -15,15 +16,15 @@ Stock = List (List ℕ × List ℕ)
 abbrev pub bytes_of : Stock → List ℕ → Option (List ℕ)
 bytes_of stock name = option_map (λ file. file.1) (find (λ file. bytes_eq file.0 name) stock)
 
--- Each file is there, and is read as a matrix.
-abbrev pub Accepted : Stock → List (List ℕ) → List Matrix → Type 0
-Accepted stock [] [] = Unit {0}
-Accepted stock (name ∷ names) (M ∷ Ms) = (bytes : List ℕ) × (bytes_of stock name ≡ Some bytes) × Reads bytes M × Accepted stock names Ms
-Accepted stock [] (M ∷ Ms) = ⊥
-Accepted stock (name ∷ names) [] = ⊥
+-- Each file is there, and is read in this form as a matrix.
+abbrev pub Accepted : Stock → TextForm → List (List ℕ) → List Matrix → Type 0
+Accepted stock form [] [] = Unit {0}
+Accepted stock form (name ∷ names) (M ∷ Ms) = (bytes : List ℕ) × (bytes_of stock name ≡ Some bytes) × ReadsAs form bytes M × Accepted stock form names Ms
+Accepted stock form [] (M ∷ Ms) = ⊥
+Accepted stock form (name ∷ names) [] = ⊥
 
 -- The operand of this number, counted from 1, is the first file that isn't accepted. It is there, and is refused.
-pub record FirstRefused (stock : Stock) (names : List (List ℕ)) (operand : ℕ) (fault : Fault) : Type 0 where
+pub record FirstRefused (stock : Stock) (form : TextForm) (names : List (List ℕ)) (operand : ℕ) (fault : Fault) : Type 0 where
   pub before : List (List ℕ)
   pub name : List ℕ
   pub after : List (List ℕ)
@@ -31,18 +32,18 @@ pub record FirstRefused (stock : Stock) (names : List (List ℕ)) (operand : ℕ
   pub bytes : List ℕ
   pub place : names ≡ before ++ name ∷ after
   pub number : operand ≡ length before + 1
-  pub accepted : Accepted stock before matrices
+  pub accepted : Accepted stock form before matrices
   pub found : bytes_of stock name ≡ Some bytes
-  pub refused : Refusal bytes fault
+  pub refused : RefusalAs form bytes fault
 
 -- The first file that isn't accepted isn't there.
-pub record FirstMissing (stock : Stock) (names : List (List ℕ)) : Type 0 where
+pub record FirstMissing (stock : Stock) (form : TextForm) (names : List (List ℕ)) : Type 0 where
   pub before : List (List ℕ)
   pub name : List ℕ
   pub after : List (List ℕ)
   pub matrices : List Matrix
   pub place : names ≡ before ++ name ∷ after
-  pub accepted : Accepted stock before matrices
+  pub accepted : Accepted stock form before matrices
   pub missing : bytes_of stock name ≡ None
 
 -- A rectangle of so many rows and columns at this place of C begins at a word's first column, and lies within C.
@@ -55,56 +56,118 @@ pub record HasRoom (C : Matrix) (row col rows cols : ℕ) : Type 0 where
 abbrev pub Fits : Command → List Matrix → Type 0
 Fits Mul (A ∷ B ∷ []) = A.cols ≡ B.rows
 Fits (Addmul row col) (C ∷ A ∷ B ∷ []) = (A.cols ≡ B.rows) × HasRoom C row col A.rows B.cols
+Fits Convert (A ∷ []) = Unit {0}
 Fits command other = ⊥
+
+-- The shape of the answer is within the limits. An answer of the shape of an operand always is.
+abbrev pub InBounds : Command → List Matrix → Type 0
+InBounds Mul (A ∷ B ∷ []) = IsWithinLimits A.rows B.cols
+InBounds command other = Unit {0}
+
+-- What a command answers: a matrix, some lines of text, or that there is no answer, with the line that says so.
+pub data Answer : Type 0 where
+  OneMatrix : Matrix → Answer
+  Lines : List ℕ → Answer
+  NoAnswer : List ℕ → Answer
 
 -- C with A B added to the rectangle of its shape at this place.
 abbrev pub with_product : Matrix → ℕ → ℕ → Matrix → Matrix → Matrix
 with_product C row col A B =
     replace C row col (added (cut C row col (row + A.rows) (col + B.cols)) (product A B))
 
--- R is the command's answer.
-abbrev pub IsAnswer : Command → List Matrix → Matrix → Type 0
-IsAnswer Mul (A ∷ B ∷ []) R = R ≡ product A B
-IsAnswer (Addmul row col) (C ∷ A ∷ B ∷ []) R = R ≡ with_product C row col A B
-IsAnswer command other R = ⊥
+-- This is the command's answer.
+abbrev pub IsAnswer : Command → List Matrix → Answer → Type 0
+IsAnswer Mul (A ∷ B ∷ []) answer = answer ≡ OneMatrix (product A B)
+IsAnswer (Addmul row col) (C ∷ A ∷ B ∷ []) answer = answer ≡ OneMatrix (with_product C row col A B)
+IsAnswer Convert (A ∷ []) answer = answer ≡ OneMatrix A
+IsAnswer command other answer = ⊥
 
--- The words ask for a task whose operands are all accepted, as these matrices.
-pub record Operands (words : List (List ℕ)) (stock : Stock) (command : Command) (matrices : List Matrix) : Type 0 where
-  pub files : List (List ℕ)
-  pub asked : job words ≡ Ok (record { command = command; files = files })
-  pub accepted : Accepted stock files matrices
+-- The status of an answer.
+abbrev pub status_of : Answer → Status
+status_of (OneMatrix R) = Done
+status_of (Lines lines) = Done
+status_of (NoAnswer line) = No
 
--- The words ask for a task, of which this operand is the first that isn't accepted.
+-- The form can hold the answer. Only a matrix is written in a form.
+abbrev pub can_hold_answer : TextForm → Answer → Type 0
+can_hold_answer form (OneMatrix R) = can_hold form R
+can_hold_answer form (Lines lines) = Unit {0}
+can_hold_answer form (NoAnswer line) = Unit {0}
+
+-- The text of an answer.
+abbrev pub text_of_answer : TextForm → Answer → List ℕ
+text_of_answer form (OneMatrix R) = text_as form R
+text_of_answer form (Lines lines) = lines
+text_of_answer form (NoAnswer line) = line
+
+-- The operands fit, the answer's shape is within the limits, and this is the answer.
+pub record HasAnswer (command : Command) (matrices : List Matrix) (answer : Answer) : Type 0 where
+  pub fits : Fits command matrices
+  pub bounds : InBounds command matrices
+  pub is : IsAnswer command matrices answer
+
+-- The words ask for this job, and its operands are all accepted, as these matrices.
+pub record Operands (words : List (List ℕ)) (stock : Stock) (asked : Job) (matrices : List Matrix) : Type 0 where
+  pub understood : job words ≡ Ok asked
+  pub accepted : Accepted stock asked.choices.from asked.files matrices
+
+-- The words ask for a job, of which this operand is the first that isn't accepted.
 pub record RefusedOperand (words : List (List ℕ)) (stock : Stock) (operand : ℕ) (fault : Fault) : Type 0 where
-  pub task : Task
-  pub asked : job words ≡ Ok task
-  pub refused : FirstRefused stock task.files operand fault
+  pub asked : Job
+  pub understood : job words ≡ Ok asked
+  pub refused : FirstRefused stock asked.choices.from asked.files operand fault
 
--- The words ask for a task, of which the first operand that isn't accepted isn't there.
+-- The words ask for a job, of which the first operand that isn't accepted isn't there.
 pub record MissingOperand (words : List (List ℕ)) (stock : Stock) : Type 0 where
-  pub task : Task
-  pub asked : job words ≡ Ok task
-  pub missing : FirstMissing stock task.files
+  pub asked : Job
+  pub understood : job words ≡ Ok asked
+  pub missing : FirstMissing stock asked.choices.from asked.files
 
 -- The shapes don't fit.
-abbrev pub IsMisfit : List (List ℕ) → Stock → Type 0
-IsMisfit words stock = (command : Command) × (Ms : List Matrix) × Operands words stock command Ms × (Fits command Ms → ⊥)
+pub record IsMisfit (words : List (List ℕ)) (stock : Stock) : Type 0 where
+  pub asked : Job
+  pub matrices : List Matrix
+  pub operands : Operands words stock asked matrices
+  pub misfit : Fits asked.command matrices → ⊥
 
--- The shapes fit, and R is the answer.
-abbrev pub IsResult : List (List ℕ) → Stock → Matrix → Type 0
-IsResult words stock R = (command : Command) × (Ms : List Matrix) × Operands words stock command Ms × Fits command Ms × IsAnswer command Ms R
+-- The shapes fit, and that of the answer passes a limit.
+pub record IsTooLarge (words : List (List ℕ)) (stock : Stock) : Type 0 where
+  pub asked : Job
+  pub matrices : List Matrix
+  pub operands : Operands words stock asked matrices
+  pub fits : Fits asked.command matrices
+  pub large : InBounds asked.command matrices → ⊥
+
+-- The answer is one matrix that the form of answers can't hold.
+pub record IsUnheld (words : List (List ℕ)) (stock : Stock) : Type 0 where
+  pub asked : Job
+  pub matrices : List Matrix
+  pub answer : Answer
+  pub operands : Operands words stock asked matrices
+  pub answers : HasAnswer asked.command matrices answer
+  pub unheld : can_hold_answer asked.choices.into answer → ⊥
+
+-- The answer has this status, the form of answers can hold it, and this is its text.
+pub record IsWritten (words : List (List ℕ)) (stock : Stock) (status : Status) (written : List ℕ) : Type 0 where
+  pub asked : Job
+  pub matrices : List Matrix
+  pub answer : Answer
+  pub operands : Operands words stock asked matrices
+  pub answers : HasAnswer asked.command matrices answer
+  pub held : can_hold_answer asked.choices.into answer
+  pub ends : status_of answer ≡ status
+  pub text : written ≡ text_of_answer asked.choices.into answer
 
 -- The status and the text that these words have over these files. A job that comes to a file that isn't there has
 -- none, nor has a read or a write that fails, nor want of memory.
 abbrev pub Outcome : List (List ℕ) → Stock → Status → List ℕ → Type 0
-Outcome words stock Done written = (R : Matrix) × IsResult words stock R × IsWithinLimits R.rows R.cols × (written ≡ text R)
-Outcome words stock No written = ⊥
+Outcome words stock Done written = IsWritten words stock Done written
+Outcome words stock No written = IsWritten words stock No written
 Outcome words stock (Words word) written = (job words ≡ Err word) × (written ≡ [])
 Outcome words stock (Text operand place) written = RefusedOperand words stock operand (BadAt place) × (written ≡ [])
-Outcome words stock Shape written = IsMisfit words stock × (written ≡ [])
+Outcome words stock Shape written = (IsMisfit words stock ⊎ IsUnheld words stock) × (written ≡ [])
 Outcome words stock Limit written =
-    (((operand : ℕ) × RefusedOperand words stock operand PastLimit)
-    ⊎ ((R : Matrix) × IsResult words stock R × (IsWithinLimits R.rows R.cols → ⊥))) × (written ≡ [])
+    (((operand : ℕ) × RefusedOperand words stock operand PastLimit) ⊎ IsTooLarge words stock) × (written ≡ [])
 Outcome words stock Read written = ⊥
 Outcome words stock Write written = ⊥
 Outcome words stock Memory written = ⊥

@@ -1,0 +1,128 @@
+//! From a job to its answer: a command's operands are read, and then it is done.
+
+ghost use Rattle.std.specs.Prelude.{◌≡◌, IfOk, IfErr, OnOk, [], ◌∷◌};
+ghost use Rattle.m4_model.specs.Outcome.{HasAnswer};
+ghost use Rattle.m4_model.specs.Words.{Addmul};
+ghost use Rattle.m4_cmd.specs.Answer.{answer_told};
+ghost use Rattle.m4_cmd.specs.Commands.{one_told, two_told};
+ghost use Rattle.m4_cmd.specs.Job.{job_told};
+ghost use Rattle.m4_cmd.specs.Options.{choices_told};
+ghost use Rattle.m4_cmd.specs.Steps.{AnswerFails, EndsUnwritten, IsJobAnswer};
+
+use crate::answer::Answer;
+use crate::operand::{read_operand, read_three, read_two};
+use crate::options::Choices;
+use crate::product::{addmul_answer, mul_answer};
+use crate::words::{Job, Task};
+use m4_io::Shelf;
+use m4_model::Status;
+use m4_mzd::Mzd;
+use std::alloc::Global;
+
+/// A command on one matrix.
+#[derive(Clone, Copy)]
+pub(crate) enum OfOne {
+    Convert,
+}
+
+/// A command on two matrices.
+#[derive(Clone, Copy)]
+pub(crate) enum OfTwo {
+    Mul,
+}
+
+/// The answer of a job.
+pub(crate) fn answer_of<S: Shelf>(alloc: Global, job: &Job, shelf: &mut S) -> Result<Answer, Status>
+    ensures stock { S.stock shelf.new ≡ S.stock shelf.old }
+    ensures answer { IfOk result (λ answer. IsJobAnswer (S.stock shelf.old) (job_told job.now) (answer_told answer)) }
+    ensures kept { OnOk result (S.faults shelf.new ≡ S.faults shelf.old) }
+    ensures fails { IfErr result (EndsUnwritten (S.stock shelf.old) (job_told job.now) (S.faults shelf.old) (S.faults shelf.new)) }
+{
+    let choices = job.choices;
+    match job.task {
+        Task::Mul { a, b } => of_two(alloc, shelf, choices, OfTwo::Mul, a, b),
+        Task::Addmul { c, r0, c0, a, b } => addmul(alloc, shelf, choices, c, (r0, c0), a, b),
+        Task::Convert { a } => of_one(alloc, shelf, choices, OfOne::Convert, a),
+    }
+}
+
+/// The answer of a command on one matrix.
+fn of_one<S: Shelf>(
+    alloc: Global,
+    shelf: &mut S,
+    choices: Choices,
+    command: OfOne,
+    a: &str,
+) -> Result<Answer, Status>
+    ensures stock { S.stock shelf.new ≡ S.stock shelf.old }
+    ensures answer { IfOk result (λ answer. IsJobAnswer (S.stock shelf.old)
+        (record { command = one_told command; files = a.now ∷ []; choices = choices_told choices }) (answer_told answer)) }
+    ensures kept { OnOk result (S.faults shelf.new ≡ S.faults shelf.old) }
+    ensures fails { IfErr result (EndsUnwritten (S.stock shelf.old)
+        (record { command = one_told command; files = a.now ∷ []; choices = choices_told choices }) (S.faults shelf.old) (S.faults shelf.new)) }
+{
+    let matrix = read_operand(alloc, shelf, choices.from, a, 1)?;
+    one_answer(command, matrix)
+}
+
+/// What a command answers to one matrix.
+fn one_answer(command: OfOne, a: Mzd) -> Result<Answer, Status>
+    ensures good { IfOk result (λ answer. HasAnswer (one_told command) (a ∷ []) (answer_told answer)) }
+    ensures fails { IfErr result (AnswerFails (one_told command) (a ∷ [])) }
+{
+    match command {
+        OfOne::Convert => Ok(Answer::Matrix(a)),
+    }
+}
+
+/// The answer of a command on two matrices.
+fn of_two<S: Shelf>(
+    alloc: Global,
+    shelf: &mut S,
+    choices: Choices,
+    command: OfTwo,
+    a: &str,
+    b: &str,
+) -> Result<Answer, Status>
+    ensures stock { S.stock shelf.new ≡ S.stock shelf.old }
+    ensures answer { IfOk result (λ answer. IsJobAnswer (S.stock shelf.old)
+        (record { command = two_told command; files = a.now ∷ b.now ∷ []; choices = choices_told choices }) (answer_told answer)) }
+    ensures kept { OnOk result (S.faults shelf.new ≡ S.faults shelf.old) }
+    ensures fails { IfErr result (EndsUnwritten (S.stock shelf.old)
+        (record { command = two_told command; files = a.now ∷ b.now ∷ []; choices = choices_told choices }) (S.faults shelf.old) (S.faults shelf.new)) }
+{
+    let (left, right) = read_two(alloc, shelf, choices.from, a, b)?;
+    two_answer(alloc, command, &left, &right)
+}
+
+/// What a command answers to two matrices.
+fn two_answer(alloc: Global, command: OfTwo, a: &Mzd, b: &Mzd) -> Result<Answer, Status>
+    ensures good { IfOk result (λ answer. HasAnswer (two_told command) (a.now ∷ b.now ∷ []) (answer_told answer)) }
+    ensures fails { IfErr result (AnswerFails (two_told command) (a.now ∷ b.now ∷ [])) }
+{
+    match command {
+        OfTwo::Mul => mul_answer(alloc, a, b),
+    }
+}
+
+/// The answer of `addmul` at a place, its row and its column.
+fn addmul<S: Shelf>(
+    alloc: Global,
+    shelf: &mut S,
+    choices: Choices,
+    c: &str,
+    place: (u32, u32),
+    a: &str,
+    b: &str,
+) -> Result<Answer, Status>
+    ensures stock { S.stock shelf.new ≡ S.stock shelf.old }
+    ensures answer { IfOk result (λ answer. IsJobAnswer (S.stock shelf.old)
+        (record { command = Addmul place.0 place.1; files = c.now ∷ a.now ∷ b.now ∷ []; choices = choices_told choices }) (answer_told answer)) }
+    ensures kept { OnOk result (S.faults shelf.new ≡ S.faults shelf.old) }
+    ensures fails { IfErr result (EndsUnwritten (S.stock shelf.old)
+        (record { command = Addmul place.0 place.1; files = c.now ∷ a.now ∷ b.now ∷ []; choices = choices_told choices })
+        (S.faults shelf.old) (S.faults shelf.new)) }
+{
+    let (sum, left, right) = read_three(alloc, shelf, choices.from, c, a, b)?;
+    addmul_answer(sum, place.0, place.1, &left, &right)
+}

@@ -1,0 +1,86 @@
+-- Words that are a job, and words that are none, with the number of the first that is refused.
+use Rattle.std.proofs.Common.{◌≡◌, ℕ, List, [], ◌∷◌, refl, Result, Ok, Err, codes}
+use Rattle.std.specs.Fmt.{digits}
+use Rattle.m4_model.specs.Texts.{TextForm, Headed, Bare, Jcf}
+use Rattle.m4_model.specs.Words.{Command, Mul, Addmul, Convert, Job, job, understand}
+
+-- the job of a command on these files, with these forms
+asks : Command → List (List ℕ) → TextForm → TextForm → Result Job ℕ
+asks command files from into = Ok (record { command = command; files = files; choices = record { from = from; into = into } })
+
+product_of_two : job (codes "mul" ∷ codes "A" ∷ codes "B" ∷ []) ≡ asks Mul (codes "A" ∷ codes "B" ∷ []) Headed Headed
+unfolding job understand digits asks
+product_of_two = refl
+
+options_among_operands : job (codes "mul" ∷ codes "--in=bare" ∷ codes "A" ∷ codes "B" ∷ codes "--out=jcf" ∷ []) ≡ asks Mul (codes "A" ∷ codes "B" ∷ []) Bare Jcf
+unfolding job understand digits asks
+options_among_operands = refl
+
+numbers_of_a_place : job (codes "addmul" ∷ codes "C" ∷ codes "1" ∷ codes "--out=text" ∷ codes "64" ∷ codes "A" ∷ codes "B" ∷ [])
+    ≡ asks (Addmul 1 64) (codes "C" ∷ codes "A" ∷ codes "B" ∷ []) Headed Headed
+unfolding job understand digits asks
+numbers_of_a_place = refl
+
+a_name_with_equals_sign : job (codes "convert" ∷ codes "-in=a=b" ∷ []) ≡ asks Convert (codes "-in=a=b" ∷ []) Headed Headed
+unfolding job understand digits asks
+a_name_with_equals_sign = refl
+
+no_words : job [] ≡ Err 1
+unfolding job
+no_words = refl
+
+no_command : job (codes "multiply" ∷ []) ≡ Err 1
+unfolding job understand digits
+no_command = refl
+
+an_option_in_place_of_the_command : job (codes "--in=text" ∷ codes "mul" ∷ []) ≡ Err 1
+unfolding job understand digits
+an_option_in_place_of_the_command = refl
+
+a_file_too_few : job (codes "mul" ∷ codes "A" ∷ []) ≡ Err 3
+unfolding job understand digits
+a_file_too_few = refl
+
+a_file_too_few_beside_an_option : job (codes "mul" ∷ codes "A" ∷ codes "--in=jcf" ∷ []) ≡ Err 4
+unfolding job understand digits
+a_file_too_few_beside_an_option = refl
+
+a_file_too_many : job (codes "mul" ∷ codes "A" ∷ codes "B" ∷ codes "C" ∷ []) ≡ Err 4
+unfolding job understand digits
+a_file_too_many = refl
+
+no_such_option : job (codes "mul" ∷ codes "--on=text" ∷ codes "A" ∷ codes "B" ∷ []) ≡ Err 2
+unfolding job understand digits
+no_such_option = refl
+
+no_such_value : job (codes "convert" ∷ codes "A" ∷ codes "--in=hex" ∷ []) ≡ Err 3
+unfolding job understand digits
+no_such_value = refl
+
+no_value : job (codes "convert" ∷ codes "--in" ∷ codes "A" ∷ []) ≡ Err 2
+unfolding job understand digits
+no_value = refl
+
+an_option_given_twice : job (codes "mul" ∷ codes "A" ∷ codes "B" ∷ codes "--in=text" ∷ codes "--in=text" ∷ []) ≡ Err 5
+unfolding job understand digits
+an_option_given_twice = refl
+
+an_option_before_a_word_too_many : job (codes "mul" ∷ codes "A" ∷ codes "B" ∷ codes "--" ∷ codes "C" ∷ []) ≡ Err 4
+unfolding job understand digits
+an_option_before_a_word_too_many = refl
+
+no_leading_zero : job (codes "addmul" ∷ codes "C" ∷ codes "01" ∷ codes "64" ∷ codes "A" ∷ codes "B" ∷ []) ≡ Err 3
+unfolding job understand digits
+no_leading_zero = refl
+
+too_long_a_number : job (codes "addmul" ∷ codes "C" ∷ codes "1" ∷ codes "1000000000" ∷ codes "A" ∷ codes "B" ∷ []) ≡ Err 4
+unfolding job understand digits
+too_long_a_number = refl
+
+no_number : job (codes "addmul" ∷ codes "C" ∷ codes "A" ∷ []) ≡ Err 3
+unfolding job understand digits
+no_number = refl
+
+a_place_missing : job (codes "addmul" ∷ codes "C" ∷ codes "1" ∷ []) ≡ Err 4
+unfolding job understand digits
+a_place_missing = refl
