@@ -1,12 +1,17 @@
 -- The commands of the code by the number of their operands, as the definitions see them.
-use Rattle.m4_model.specs.Words.{Command, Mul, Convert}
+use Rattle.m4_model.specs.Words.{Command, Mul, Add, Transpose, Stack, Augment, Sub, Convert}
 use Rattle.m4_cmd.specs.declared.commands.OfOne.{OfOne}
 use Rattle.m4_cmd.specs.declared.commands.OfOne.TheVariants as ones
 use Rattle.m4_cmd.specs.declared.commands.OfTwo.{OfTwo}
 use Rattle.m4_cmd.specs.declared.commands.OfTwo.TheVariants as twos
 
 abbrev pub one_told : OfOne → Command
+one_told ones.Transpose = Transpose
+one_told (ones.Sub rect) = Sub rect.r0 rect.c0 rect.r1 rect.c1
 one_told ones.Convert = Convert
 
 abbrev pub two_told : OfTwo → Command
 two_told twos.Mul = Mul
+two_told twos.Add = Add
+two_told twos.Stack = Stack
+two_told twos.Augment = Augment

@@ -1,6 +1,6 @@
 -- The commands and jobs of the code, as the definitions see them.
 use Rattle.std.specs.Prelude.{ℕ, List, [], ◌∷◌}
-use Rattle.m4_model.specs.Words.{Command, Mul, Addmul, Convert, Verb, MulVerb, AddmulVerb, ConvertVerb}
+use Rattle.m4_model.specs.Words.{Command, Mul, Addmul, Add, Transpose, Stack, Augment, Sub, Convert, Verb, MulVerb, AddmulVerb, AddVerb, TransposeVerb, StackVerb, AugmentVerb, SubVerb, ConvertVerb}
 use Rattle.m4_model.specs.Words.{Job as Asked}
 use Rattle.m4_cmd.specs.Options.{choices_told}
 use Rattle.m4_cmd.specs.declared.words.Task.{Task}
@@ -12,22 +12,42 @@ use Rattle.m4_cmd.specs.declared.words.Job.{Job}
 abbrev pub verb_told : FirstWord → Verb
 verb_told verbs.Mul = MulVerb
 verb_told verbs.Addmul = AddmulVerb
+verb_told verbs.Add = AddVerb
+verb_told verbs.Transpose = TransposeVerb
+verb_told verbs.Stack = StackVerb
+verb_told verbs.Augment = AugmentVerb
+verb_told verbs.Sub = SubVerb
 verb_told verbs.Convert = ConvertVerb
 
 -- What a task asks for, the numbers among its operands, and the names of its files.
 abbrev pub command_told : Task → Command
 command_told (tasks.Mul a b) = Mul
 command_told (tasks.Addmul c r0 c0 a b) = Addmul r0 c0
+command_told (tasks.Add a b) = Add
+command_told (tasks.Transpose a) = Transpose
+command_told (tasks.Stack a b) = Stack
+command_told (tasks.Augment a b) = Augment
+command_told (tasks.Sub a r0 c0 r1 c1) = Sub r0 c0 r1 c1
 command_told (tasks.Convert a) = Convert
 
 abbrev pub numbers_told : Task → List ℕ
 numbers_told (tasks.Mul a b) = []
 numbers_told (tasks.Addmul c r0 c0 a b) = r0 ∷ c0 ∷ []
+numbers_told (tasks.Add a b) = []
+numbers_told (tasks.Transpose a) = []
+numbers_told (tasks.Stack a b) = []
+numbers_told (tasks.Augment a b) = []
+numbers_told (tasks.Sub a r0 c0 r1 c1) = r0 ∷ c0 ∷ r1 ∷ c1 ∷ []
 numbers_told (tasks.Convert a) = []
 
 abbrev pub files_told : Task → List (List ℕ)
 files_told (tasks.Mul a b) = a.now ∷ b.now ∷ []
 files_told (tasks.Addmul c r0 c0 a b) = c.now ∷ a.now ∷ b.now ∷ []
+files_told (tasks.Add a b) = a.now ∷ b.now ∷ []
+files_told (tasks.Transpose a) = a.now ∷ []
+files_told (tasks.Stack a b) = a.now ∷ b.now ∷ []
+files_told (tasks.Augment a b) = a.now ∷ b.now ∷ []
+files_told (tasks.Sub a r0 c0 r1 c1) = a.now ∷ []
 files_told (tasks.Convert a) = a.now ∷ []
 
 abbrev pub job_told : Job → Asked

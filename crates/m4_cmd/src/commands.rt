@@ -13,15 +13,18 @@ use crate::answer::Answer;
 use crate::operand::{read_operand, read_three, read_two};
 use crate::options::Choices;
 use crate::product::{addmul_answer, mul_answer};
+use crate::shape::{add_answer, augment_answer, stack_answer, sub_answer, transpose_answer};
 use crate::words::{Job, Task};
 use m4_io::Shelf;
 use m4_model::Status;
-use m4_mzd::Mzd;
+use m4_mzd::{Mzd, Rect};
 use std::alloc::Global;
 
 /// A command on one matrix.
 #[derive(Clone, Copy)]
 pub(crate) enum OfOne {
+    Transpose,
+    Sub(Rect),
     Convert,
 }
 
@@ -29,6 +32,9 @@ pub(crate) enum OfOne {
 #[derive(Clone, Copy)]
 pub(crate) enum OfTwo {
     Mul,
+    Add,
+    Stack,
+    Augment,
 }
 
 /// The answer of a job.
@@ -42,6 +48,14 @@ pub(crate) fn answer_of<S: Shelf>(alloc: Global, job: &Job, shelf: &mut S) -> Re
     match job.task {
         Task::Mul { a, b } => of_two(alloc, shelf, choices, OfTwo::Mul, a, b),
         Task::Addmul { c, r0, c0, a, b } => addmul(alloc, shelf, choices, c, (r0, c0), a, b),
+        Task::Add { a, b } => of_two(alloc, shelf, choices, OfTwo::Add, a, b),
+        Task::Transpose { a } => of_one(alloc, shelf, choices, OfOne::Transpose, a),
+        Task::Stack { a, b } => of_two(alloc, shelf, choices, OfTwo::Stack, a, b),
+        Task::Augment { a, b } => of_two(alloc, shelf, choices, OfTwo::Augment, a, b),
+        Task::Sub { a, r0, c0, r1, c1 } => {
+            let rect = Rect { r0, c0, r1, c1 };
+            of_one(alloc, shelf, choices, OfOne::Sub(rect), a)
+        }
         Task::Convert { a } => of_one(alloc, shelf, choices, OfOne::Convert, a),
     }
 }
@@ -62,15 +76,17 @@ fn of_one<S: Shelf>(
         (record { command = one_told command; files = a.now ∷ []; choices = choices_told choices }) (S.faults shelf.old) (S.faults shelf.new)) }
 {
     let matrix = read_operand(alloc, shelf, choices.from, a, 1)?;
-    one_answer(command, matrix)
+    one_answer(alloc, command, matrix)
 }
 
 /// What a command answers to one matrix.
-fn one_answer(command: OfOne, a: Mzd) -> Result<Answer, Status>
+fn one_answer(alloc: Global, command: OfOne, a: Mzd) -> Result<Answer, Status>
     ensures good { IfOk result (λ answer. HasAnswer (one_told command) (a ∷ []) (answer_told answer)) }
     ensures fails { IfErr result (AnswerFails (one_told command) (a ∷ [])) }
 {
     match command {
+        OfOne::Transpose => transpose_answer(alloc, &a),
+        OfOne::Sub(rect) => sub_answer(alloc, &a, rect),
         OfOne::Convert => Ok(Answer::Matrix(a)),
     }
 }
@@ -92,16 +108,19 @@ fn of_two<S: Shelf>(
         (record { command = two_told command; files = a.now ∷ b.now ∷ []; choices = choices_told choices }) (S.faults shelf.old) (S.faults shelf.new)) }
 {
     let (left, right) = read_two(alloc, shelf, choices.from, a, b)?;
-    two_answer(alloc, command, &left, &right)
+    two_answer(alloc, command, left, &right)
 }
 
 /// What a command answers to two matrices.
-fn two_answer(alloc: Global, command: OfTwo, a: &Mzd, b: &Mzd) -> Result<Answer, Status>
-    ensures good { IfOk result (λ answer. HasAnswer (two_told command) (a.now ∷ b.now ∷ []) (answer_told answer)) }
-    ensures fails { IfErr result (AnswerFails (two_told command) (a.now ∷ b.now ∷ [])) }
+fn two_answer(alloc: Global, command: OfTwo, a: Mzd, b: &Mzd) -> Result<Answer, Status>
+    ensures good { IfOk result (λ answer. HasAnswer (two_told command) (a ∷ b.now ∷ []) (answer_told answer)) }
+    ensures fails { IfErr result (AnswerFails (two_told command) (a ∷ b.now ∷ [])) }
 {
     match command {
-        OfTwo::Mul => mul_answer(alloc, a, b),
+        OfTwo::Mul => mul_answer(alloc, &a, b),
+        OfTwo::Add => add_answer(a, b),
+        OfTwo::Stack => stack_answer(alloc, &a, b),
+        OfTwo::Augment => augment_answer(alloc, &a, b),
     }
 }
 

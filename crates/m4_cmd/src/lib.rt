@@ -10,6 +10,7 @@ mod options;
 mod product;
 mod program;
 mod progress;
+mod shape;
 #[cfg(test)]
 mod tests;
 mod words;

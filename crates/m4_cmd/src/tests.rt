@@ -332,6 +332,119 @@ fn conversions(rt: HostRuntime) -> Result<(), Fail> {
     Ok(())
 }
 
+/// Commands on the parts of matrices, the texts of their operands, the status and the text of their answer, all bare.
+const PARTS: [(&[&str], &str, &str, Status, &str); 17] = [
+    (&["add", "A", "B"], "11\n", "01\n", Status::Done, "10\n"),
+    (&["add", "A", "B"], "11\n", "0\n", Status::Shape, ""),
+    (&["add", "A", "B"], "11\n", "01\n01\n", Status::Shape, ""),
+    (
+        &["transpose", "A"],
+        "110\n011\n",
+        "",
+        Status::Done,
+        "10\n11\n01\n",
+    ),
+    (&["transpose", "A"], "\n\n", "", Status::Shape, ""),
+    (&["transpose", "A", "B"], "1\n", "", Status::Words(3), ""),
+    (
+        &["stack", "A", "B"],
+        "10\n",
+        "01\n",
+        Status::Done,
+        "10\n01\n",
+    ),
+    (&["stack", "A", "B"], "10\n", "0\n", Status::Shape, ""),
+    (
+        &["augment", "A", "B"],
+        "10\n",
+        "01\n",
+        Status::Done,
+        "1001\n",
+    ),
+    (&["augment", "A", "B"], "10\n", "0\n1\n", Status::Shape, ""),
+    (
+        &["sub", "A", "0", "1", "2", "3"],
+        "110\n011\n",
+        "",
+        Status::Done,
+        "10\n11\n",
+    ),
+    (
+        &["sub", "A", "0", "3", "2", "3"],
+        "110\n011\n",
+        "",
+        Status::Done,
+        "\n\n",
+    ),
+    (
+        &["sub", "A", "1", "1", "1", "1"],
+        "110\n011\n",
+        "",
+        Status::Done,
+        "",
+    ),
+    (
+        &["sub", "A", "1", "1", "1", "3"],
+        "110\n011\n",
+        "",
+        Status::Shape,
+        "",
+    ),
+    (
+        &["sub", "A", "1", "0", "0", "1"],
+        "110\n011\n",
+        "",
+        Status::Shape,
+        "",
+    ),
+    (
+        &["sub", "A", "0", "0", "1", "4"],
+        "110\n011\n",
+        "",
+        Status::Shape,
+        "",
+    ),
+    (
+        &["sub", "A", "0", "0", "3", "1"],
+        "110\n011\n",
+        "",
+        Status::Shape,
+        "",
+    ),
+];
+
+#[test]
+fn parts(rt: HostRuntime) -> Result<(), Fail> {
+    for (command, a, b, status, answer) in PARTS {
+        let mut words = Vec::from_slice(rt.alloc(), command)?;
+        words.extend_from_slice(&["--in=bare", "--out=bare"])?;
+        let ended = run_on(rt.alloc(), &words, a.as_bytes(), b.as_bytes(), &AMPLE)?;
+        assert_eq!(rt; ended.status, status, "{command:?} {a:?} {b:?}");
+        assert_eq!(rt;
+            ended.out.taken(),
+            answer.as_bytes(),
+            "{command:?} {a:?} {b:?}"
+        );
+    }
+    Ok(())
+}
+
+#[test]
+fn answers_past_a_limit(rt: HostRuntime) -> Result<(), Fail> {
+    let tall = format!(in rt.alloc(); "gf2 65536 0\n{}", "\n".repeat(rt.alloc(), 65536)?)?;
+    let wide = format!(in rt.alloc(); "gf2 1 65536\n{}\n", "1".repeat(rt.alloc(), 65536)?)?;
+    for (command, a, b) in [
+        ("mul", tall.as_str(), "gf2 0 65536\n"),
+        ("stack", tall.as_str(), "gf2 1 0\n\n"),
+        ("augment", wide.as_str(), ONE),
+    ] {
+        let words = [command, "A", "B"];
+        let ended = run_on(rt.alloc(), &words, a.as_bytes(), b.as_bytes(), &AMPLE)?;
+        assert_ended(&rt, &ended, Status::Limit, b"", "m4lin: limit passed\n");
+    }
+    Ok(())
+}
+
 #[test]
 fn options_stand_anywhere(rt: HostRuntime) -> Result<(), Fail> {
     let words = ["mul", "--in=bare", "A", "B", "--out=jcf"];
@@ -388,9 +501,6 @@ fn refusals(rt: HostRuntime) -> Result<(), Fail> {
         b"",
         "m4lin: shapes do not fit\n",
     );
-    let tall = format!(in rt.alloc(); "gf2 65536 0\n{}", "\n".repeat(rt.alloc(), 65536)?)?;
-    let ended = run_on(rt.alloc(), &MUL, tall.as_bytes(), b"gf2 0 65536\n", &AMPLE)?;
-    assert_ended(&rt, &ended, Status::Limit, b"", "m4lin: limit passed\n");
     Ok(())
 }
 

@@ -29,6 +29,33 @@ pub enum Task<'a> {
         a: &'a str,
         b: &'a str,
     },
+    /// The sum of two matrices.
+    Add {
+        a: &'a str,
+        b: &'a str,
+    },
+    /// The matrix with its rows as columns.
+    Transpose {
+        a: &'a str,
+    },
+    /// A matrix over another.
+    Stack {
+        a: &'a str,
+        b: &'a str,
+    },
+    /// A matrix left of another.
+    Augment {
+        a: &'a str,
+        b: &'a str,
+    },
+    /// Rows `r0` to `r1 - 1` and columns `c0` to `c1 - 1` of a matrix.
+    Sub {
+        a: &'a str,
+        r0: u32,
+        c0: u32,
+        r1: u32,
+        c1: u32,
+    },
     /// The matrix itself, which is read in one form and written in another.
     Convert {
         a: &'a str,
@@ -47,6 +74,11 @@ pub struct Job<'a> {
 pub(crate) enum Verb {
     Mul,
     Addmul,
+    Add,
+    Transpose,
+    Stack,
+    Augment,
+    Sub,
     Convert,
 }
 
@@ -83,6 +115,11 @@ fn verb_of(word: &str) -> Option<Verb>
     match word {
         "mul" => Some(Verb::Mul),
         "addmul" => Some(Verb::Addmul),
+        "add" => Some(Verb::Add),
+        "transpose" => Some(Verb::Transpose),
+        "stack" => Some(Verb::Stack),
+        "augment" => Some(Verb::Augment),
+        "sub" => Some(Verb::Sub),
         "convert" => Some(Verb::Convert),
         _ => None,
     }
@@ -112,6 +149,28 @@ fn task_of<'a>(
             c0: next_number(words, progress)?,
             a: next_name(words, progress)?,
             b: next_name(words, progress)?,
+        }),
+        Verb::Add => Ok(Task::Add {
+            a: next_name(words, progress)?,
+            b: next_name(words, progress)?,
+        }),
+        Verb::Transpose => Ok(Task::Transpose {
+            a: next_name(words, progress)?,
+        }),
+        Verb::Stack => Ok(Task::Stack {
+            a: next_name(words, progress)?,
+            b: next_name(words, progress)?,
+        }),
+        Verb::Augment => Ok(Task::Augment {
+            a: next_name(words, progress)?,
+            b: next_name(words, progress)?,
+        }),
+        Verb::Sub => Ok(Task::Sub {
+            a: next_name(words, progress)?,
+            r0: next_number(words, progress)?,
+            c0: next_number(words, progress)?,
+            r1: next_number(words, progress)?,
+            c1: next_number(words, progress)?,
         }),
         Verb::Convert => Ok(Task::Convert {
             a: next_name(words, progress)?,

@@ -2,7 +2,7 @@
 use Rattle.std.proofs.Common.{◌≡◌, ℕ, List, [], ◌∷◌, refl, Result, Ok, Err, codes}
 use Rattle.std.specs.Fmt.{digits}
 use Rattle.m4_model.specs.Texts.{TextForm, Headed, Bare, Jcf}
-use Rattle.m4_model.specs.Words.{Command, Mul, Addmul, Convert, Job, job, understand}
+use Rattle.m4_model.specs.Words.{Command, Mul, Addmul, Sub, Convert, Job, job, understand}
 
 -- the job of a command on these files, with these forms
 asks : Command → List (List ℕ) → TextForm → TextForm → Result Job ℕ
@@ -24,6 +24,10 @@ numbers_of_a_place = refl
 a_name_with_equals_sign : job (codes "convert" ∷ codes "-in=a=b" ∷ []) ≡ asks Convert (codes "-in=a=b" ∷ []) Headed Headed
 unfolding job understand digits asks
 a_name_with_equals_sign = refl
+
+corners_of_a_part : job (codes "sub" ∷ codes "A" ∷ codes "0" ∷ codes "1" ∷ codes "2" ∷ codes "3" ∷ []) ≡ asks (Sub 0 1 2 3) (codes "A" ∷ []) Headed Headed
+unfolding job understand digits asks
+corners_of_a_part = refl
 
 no_words : job [] ≡ Err 1
 unfolding job

@@ -1,10 +1,10 @@
 -- What a run of the program has to answer: its status and its text, from its words and the files at hand.
 use Rattle.std.specs.Prelude.{◌≡◌, ℕ, ◌+◌, ◌%◌, ◌≤◌, ◌⊎◌, List, [], ◌∷◌, ◌++◌, length, Option, Some, None, option_map, find, bytes_eq, Ok, Err, codes, decimal}
 use Rattle.m4_model.specs.Matrix.{Matrix, added, product}
-use Rattle.m4_model.specs.Shapes.{cut, replace}
+use Rattle.m4_model.specs.Shapes.{transposed, above, beside, cut, replace}
 use Rattle.m4_model.specs.Text.{Fault, BadAt, PastLimit, IsWithinLimits}
 use Rattle.m4_model.specs.Texts.{TextForm, can_hold, text_as, ReadsAs, RefusalAs}
-use Rattle.m4_model.specs.Words.{Command, Mul, Addmul, Convert, Job, job}
+use Rattle.m4_model.specs.Words.{Command, Mul, Addmul, Add, Transpose, Stack, Augment, Sub, Convert, Job, job}
 use Rattle.m4_model.specs.declared.status.Status.{Status}
 use Rattle.m4_model.specs.declared.status.Status.TheVariants.{Done, No, Words, Text, Shape, Limit, Read, Write, Memory}
 
@@ -52,16 +52,31 @@ pub record HasRoom (C : Matrix) (row col rows cols : ℕ) : Type 0 where
   pub within_rows : row + rows ≤ C.rows
   pub within_cols : col + cols ≤ C.cols
 
+-- Rows `row` to `row_end - 1` and columns `col` to `col_end - 1` are those of a rectangle of A.
+pub record HasRectangle (A : Matrix) (row col row_end col_end : ℕ) : Type 0 where
+  pub in_order : row ≤ row_end
+  pub in_order_across : col ≤ col_end
+  pub in_rows : row_end ≤ A.rows
+  pub in_cols : col_end ≤ A.cols
+
 -- The operands' shapes fit the command.
 abbrev pub Fits : Command → List Matrix → Type 0
 Fits Mul (A ∷ B ∷ []) = A.cols ≡ B.rows
 Fits (Addmul row col) (C ∷ A ∷ B ∷ []) = (A.cols ≡ B.rows) × HasRoom C row col A.rows B.cols
+Fits Add (A ∷ B ∷ []) = (A.rows ≡ B.rows) × (A.cols ≡ B.cols)
+Fits Transpose (A ∷ []) = Unit {0}
+Fits Stack (A ∷ B ∷ []) = A.cols ≡ B.cols
+Fits Augment (A ∷ B ∷ []) = A.rows ≡ B.rows
+Fits (Sub row col row_end col_end) (A ∷ []) = HasRectangle A row col row_end col_end
 Fits Convert (A ∷ []) = Unit {0}
 Fits command other = ⊥
 
--- The shape of the answer is within the limits. An answer of the shape of an operand always is.
+-- The shape of the answer is within the limits. An answer no larger than an operand always is.
 abbrev pub InBounds : Command → List Matrix → Type 0
 InBounds Mul (A ∷ B ∷ []) = IsWithinLimits A.rows B.cols
+InBounds Transpose (A ∷ []) = IsWithinLimits A.cols A.rows
+InBounds Stack (A ∷ B ∷ []) = IsWithinLimits (A.rows + B.rows) A.cols
+InBounds Augment (A ∷ B ∷ []) = IsWithinLimits A.rows (A.cols + B.cols)
 InBounds command other = Unit {0}
 
 -- What a command answers: a matrix, some lines of text, or that there is no answer, with the line that says so.
@@ -79,6 +94,11 @@ with_product C row col A B =
 abbrev pub IsAnswer : Command → List Matrix → Answer → Type 0
 IsAnswer Mul (A ∷ B ∷ []) answer = answer ≡ OneMatrix (product A B)
 IsAnswer (Addmul row col) (C ∷ A ∷ B ∷ []) answer = answer ≡ OneMatrix (with_product C row col A B)
+IsAnswer Add (A ∷ B ∷ []) answer = answer ≡ OneMatrix (added A B)
+IsAnswer Transpose (A ∷ []) answer = answer ≡ OneMatrix (transposed A)
+IsAnswer Stack (A ∷ B ∷ []) answer = answer ≡ OneMatrix (above A B)
+IsAnswer Augment (A ∷ B ∷ []) answer = answer ≡ OneMatrix (beside A B)
+IsAnswer (Sub row col row_end col_end) (A ∷ []) answer = answer ≡ OneMatrix (cut A row col row_end col_end)
 IsAnswer Convert (A ∷ []) answer = answer ≡ OneMatrix A
 IsAnswer command other answer = ⊥
 

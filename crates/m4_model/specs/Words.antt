@@ -8,6 +8,11 @@ use Rattle.m4_model.specs.Texts.{TextForm, Headed, Bare, Jcf}
 pub data Command : Type 0 where
   Mul : Command
   Addmul : (row col : ℕ) → Command
+  Add : Command
+  Transpose : Command
+  Stack : Command
+  Augment : Command
+  Sub : (row col row_end col_end : ℕ) → Command
   Convert : Command
 
 -- What the options choose: the form of all files that are read, and that of an answer that is one matrix.
@@ -25,6 +30,11 @@ pub record Job : Type 0 where
 pub data Verb : Type 0 where
   MulVerb : Verb
   AddmulVerb : Verb
+  AddVerb : Verb
+  TransposeVerb : Verb
+  StackVerb : Verb
+  AugmentVerb : Verb
+  SubVerb : Verb
   ConvertVerb : Verb
 
 -- The verb that a word is.
@@ -32,6 +42,11 @@ abbrev pub verb_of : List ℕ → Option Verb
 verb_of word =
     if bytes_eq word (codes "mul") then Some MulVerb
     else if bytes_eq word (codes "addmul") then Some AddmulVerb
+    else if bytes_eq word (codes "add") then Some AddVerb
+    else if bytes_eq word (codes "transpose") then Some TransposeVerb
+    else if bytes_eq word (codes "stack") then Some StackVerb
+    else if bytes_eq word (codes "augment") then Some AugmentVerb
+    else if bytes_eq word (codes "sub") then Some SubVerb
     else if bytes_eq word (codes "convert") then Some ConvertVerb
     else None
 
@@ -44,12 +59,22 @@ pub data Kind : Type 0 where
 abbrev pub kinds_of : Verb → List Kind
 kinds_of MulVerb = FileName ∷ FileName ∷ []
 kinds_of AddmulVerb = FileName ∷ Number ∷ Number ∷ FileName ∷ FileName ∷ []
+kinds_of AddVerb = FileName ∷ FileName ∷ []
+kinds_of TransposeVerb = FileName ∷ []
+kinds_of StackVerb = FileName ∷ FileName ∷ []
+kinds_of AugmentVerb = FileName ∷ FileName ∷ []
+kinds_of SubVerb = FileName ∷ Number ∷ Number ∷ Number ∷ Number ∷ []
 kinds_of ConvertVerb = FileName ∷ []
 
 -- The command of a verb with its numbers, which are as many as its places have.
 abbrev pub command_of : Verb → List ℕ → Option Command
 command_of MulVerb [] = Some Mul
 command_of AddmulVerb (row ∷ col ∷ []) = Some (Addmul row col)
+command_of AddVerb [] = Some Add
+command_of TransposeVerb [] = Some Transpose
+command_of StackVerb [] = Some Stack
+command_of AugmentVerb [] = Some Augment
+command_of SubVerb (row ∷ col ∷ row_end ∷ col_end ∷ []) = Some (Sub row col row_end col_end)
 command_of ConvertVerb [] = Some Convert
 command_of verb numbers = None
 
