@@ -1,0 +1,6 @@
+//! PLE factorization over GF(2), in place.
+#![tactic(auto)]
+
+mod plain;
+
+pub use plain::ple_plain;

@@ -1,0 +1,116 @@
+//! The plain elimination: column by column, and in each by whole words of the rows.
+
+ghost use Rattle.std.specs.Prelude.{◌≡◌, ◌⊎◌, ℕ, ◌+◌, ◌<◌, ◌≤◌, ◌^◌, length, take, slice_index, IfSome, IfNone};
+ghost use Rattle.std.specs.List.{range_with_len};
+ghost use Rattle.m4_model.specs.Matrix.{Matrix, at, with_row};
+ghost use Rattle.m4_model.specs.Shapes.{swaps};
+ghost use Rattle.m4_mzd.specs.Window.{content, showing};
+ghost use Rattle.m4_perm.specs.Perm.{AreSwaps};
+ghost use Rattle.m4_ple.specs.Elimination.{IsEliminated, cleared, cleared_row};
+ghost use Rattle.m4_ple.specs.Held.{HoldsPle};
+
+use m4_mzd::WinMut;
+
+/// Factors the window as P L E in its own place, and answers its rank r.
+///
+/// `p` has as many entries as the window has rows, and tells P by exchanges, as LAPACK's pivot vectors do: row i and row
+/// `p[i]` are exchanged for i = 0, 1, 2 and so on; from r on each stays. `q` has room for as many numbers as the lesser
+/// of rows and columns; its first r are the pivot columns. L's first r columns stand below the diagonal, and row i of E
+/// stands from its pivot on. It takes no memory and refuses nothing.
+///
+/// This is Gaussian elimination as in Albrecht, Bard and Pernet, "Efficient dense Gaussian elimination over the field
+/// with two elements" (2011), section 3, without tables.
+pub fn ple_plain(a: &mut WinMut, p: &mut [u32], q: &mut [u32]) -> u32
+    requires exchanges { length p.old ≡ a.old.rows }
+    requires pivots { (length q.old ≡ a.old.rows) ⊎ (a.old.cols ≤ length q.old) }
+    ensures kept { a.new ≡ showing a.old (content a.new) }
+    ensures exchanges { AreSwaps a.old.rows p.new }
+    ensures stay { (i : ℕ) → result ≤ i → i < a.old.rows → slice_index p.new i ≡ i }
+    ensures rank { result ≤ length q.new }
+    ensures factors { HoldsPle (content a.old) (swaps a.old.rows p.new) (take result q.new) (content a.new) }
+{
+    let _rows = a.rows();
+    number(p);
+    let mut rank = 0;
+    for c in 0..a.cols() {
+        rank = eliminate_column(a, p, q, rank, c);
+    }
+    rank
+}
+
+/// Puts each place's number there.
+fn number(p: &mut [u32])
+    requires { length p.old < 2 ^ 32 }
+    ensures { p.new ≡ range_with_len 0 (length p.old) }
+{
+    for i in 0..p.len() {
+        p[i] = i as u32;
+    }
+}
+
+/// Looks for a pivot in column `c`, from row `rank` on, and clears the column below it. Answers the new rank.
+fn eliminate_column(a: &mut WinMut, p: &mut [u32], q: &mut [u32], rank: u32, c: u32) -> u32
+    requires in_cols { c < a.old.cols }
+    requires reached { rank ≤ c }
+    requires exchanges { length p.old ≡ a.old.rows }
+    requires pivots { (length q.old ≡ a.old.rows) ⊎ (a.old.cols ≤ length q.old) }
+    ensures kept { a.new ≡ showing a.old (content a.new) }
+    ensures exchanges { length p.new ≡ length p.old }
+    ensures pivots { length q.new ≡ length q.old }
+    ensures eliminated { (A : Matrix) → IsEliminated A p.old q.old rank c (content a.old) → IsEliminated A p.new q.new result (c + 1) (content a.new) }
+{
+    let _rows = a.rows();
+    let Some(row) = find_pivot(a, rank, c) else {
+        return rank;
+    };
+    a.swap_rows(rank, row);
+    p[rank as usize] = row;
+    q[rank as usize] = c;
+    clear_below(a, rank, c);
+    rank + 1
+}
+
+/// The first row from `from` on that has a one in column `c`.
+fn find_pivot(a: &WinMut, from: u32, c: u32) -> Option<u32>
+    requires { c < a.now.cols }
+    ensures behind { IfSome result (λ r. from ≤ r) }
+    ensures in_rows { IfSome result (λ r. r < a.now.rows) }
+    ensures one { IfSome result (λ r. at (content a.now) r c ≡ 1) }
+    ensures none { IfNone result ((i : ℕ) → from ≤ i → i < a.now.rows → at (content a.now) i c ≡ 0) }
+{
+    for r in from..a.rows() {
+        if a.get(r, c) {
+            return Some(r);
+        }
+    }
+    None
+}
+
+/// Clears column `c` below row `r`, which has its pivot there, and keeps the factors in column `r`.
+fn clear_below(a: &mut WinMut, r: u32, c: u32)
+    requires in_rows { r < a.old.rows }
+    requires in_cols { c < a.old.cols }
+    requires behind { r ≤ c }
+    ensures { a.new ≡ showing a.old (cleared r c a.old.rows (content a.old)) }
+{
+    let _cols = a.cols();
+    for i in r + 1..a.rows() {
+        clear_entry(a, i, r, c);
+    }
+}
+
+/// Clears row `i` in column `c` by row `r`, where there is a one, and keeps the factor in column `r`.
+fn clear_entry(a: &mut WinMut, i: u32, r: u32, c: u32)
+    requires in_rows { i < a.old.rows }
+    requires below { r < i }
+    requires in_cols { c < a.old.cols }
+    requires behind { r ≤ c }
+    ensures { a.new ≡ showing a.old (with_row (content a.old) i (cleared_row r c (content a.old) i)) }
+{
+    let _rows = a.rows();
+    if a.get(i, c) {
+        a.add_own(i, r, c + 1);
+        a.put(i, c, false);
+        a.put(i, r, true);
+    }
+}
