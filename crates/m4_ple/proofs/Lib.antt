@@ -1,3 +1,4 @@
 pub mod Clearing
+pub mod ExchangedColumns
 pub mod Exchanges
 pub mod Eliminated

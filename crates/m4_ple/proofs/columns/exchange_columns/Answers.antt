@@ -1,0 +1,18 @@
+use Rattle.std.proofs.Common.{◌≡◌, ◌∙◌, ap, arith}
+use Rattle.m4_model.specs.Matrix.{with_row}
+use Rattle.m4_mzd.specs.Window.{Window, content, showing}
+use Rattle.m4_ple.specs.Columns.{exchanged_row}
+use Rattle.m4_ple.proofs.ExchangedColumns.{exchanged-start, exchanged-more}
+use Rattle.m4_ple.proofs.columns.exchange_columns.Goals as goal
+
+pub loop-i-init : goal.loop-i-init
+loop-i-init c = ap (showing c.args.a.now) (exchanged-start c.args.pivots.now (content c.args.a.now) c.rows-rows.ensures.shape.matrix)
+
+pub loop-i-preserved : goal.loop-i-preserved
+loop-i-preserved c =
+    let W = c.args.a.now in
+    let q = c.args.pivots.now in
+    let i = c.loop-i.i in
+    c.exchange_in_row.ensures
+    ∙ ap (λ (V : Window). showing V (with_row (content V) i (exchanged_row q (content V) i))) c.loop-i.invariant
+    ∙ ap (showing W) (exchanged-more q (content W) i c.rows-rows.ensures.shape.matrix (let inside = c.requires.in_rows in omega (arith, inside)))
