@@ -11,20 +11,20 @@ use Rattle.m4_mzd.proofs.RowLemmas.{with_row-matrix_of, length-row_sum, get_or-r
 use Rattle.m4_ple.specs.Elimination.{cleared_entry, cleared_row, cleared}
 
 -- a sum from a column on is as long as its first row
-length-sum_from : (c : ℕ) (xs ys : List ℕ) → length (sum_from c xs ys) ≡ length xs
+pub length-sum_from : (c : ℕ) (xs ys : List ℕ) → length (sum_from c xs ys) ≡ length xs
 length-sum_from c xs ys =
     let first = length-take c xs in
     let rest = length-drop c xs in
     length-append (take c xs) (row_sum (drop c xs) (drop c ys)) ∙ (let tail = length-row_sum (drop c xs) (drop c ys) in omega (arith, first, rest, tail))
 
 -- before the column nothing changes
-sum_from-before : (c j : ℕ) (xs ys : List ℕ) → c ≤ length xs → j < c → get_or (sum_from c xs ys) j 0 ≡ get_or xs j 0
+pub sum_from-before : (c j : ℕ) (xs ys : List ℕ) → c ≤ length xs → j < c → get_or (sum_from c xs ys) j 0 ≡ get_or xs j 0
 sum_from-before c j xs ys within before =
     let first = length-take c xs in
     get_or_append_left (take c xs) (row_sum (drop c xs) (drop c ys)) 0 j (omega (arith, first, within, before)) ∙ get_or-take c xs j 0 before
 
 -- from it on the entries are added
-sum_from-after : (c j : ℕ) (xs ys : List ℕ) → length ys ≡ length xs → c ≤ length xs → c ≤ j
+pub sum_from-after : (c j : ℕ) (xs ys : List ℕ) → length ys ≡ length xs → c ≤ length xs → c ≤ j
     → get_or (sum_from c xs ys) j 0 ≡ bit_xor (get_or xs j 0) (get_or ys j 0)
 sum_from-after c j xs ys same within past =
     let first = length-take c xs in

@@ -18,14 +18,9 @@ use Rattle.m4_model.proofs.BlockLemmas.{at-picked_cols}
 use Rattle.m4_model.proofs.FactorLemmas.{upper_of_ple, pluq_of_ple}
 use Rattle.m4_mzd.proofs.RowLemmas.{with_row-matrix_of}
 use Rattle.m4_perm.proofs.OrderLemmas.{exchange_step, exchange_done}
+use Rattle.m4_ple.proofs.RowByRow.{same_made_entries, row-done_later, done_to-more}
 use Rattle.m4_ple.specs.Columns.{exchanged_row, with_exchanged}
 use Rattle.m4_ple.specs.Held.{HoldsPle, HoldsPluq}
-
--- matrices made of the same entries
-same_made_entries : (F : Field) (m n : ℕ) (g h : ℕ → ℕ → ℕ) → ((i j : ℕ) → i < m → j < n → g i j ≡ h i j) → matrix_of F m n g ≡ matrix_of F m n h
-same_made_entries F m n g h same =
-    ap (λ (rows : List (List ℕ)). record { field = F; rows = m; cols = n; entries = rows })
-    (same_table m n h (table m n g) (length-table m n g) (length-row-table m n g) (λ i j below within. at-table m n g i j below within ∙ same i j below within))
 
 -- two entries of one row are written
 pub written_swapped : (A : Matrix) (r i j x y : ℕ) → IsMatrix A → r < A.rows → i < A.cols → j < A.cols → at A r i ≡ x → at A r j ≡ y
@@ -113,38 +108,18 @@ exchanged-skip (suc d) k i q xs place room wide within same =
     ∙ ap (exchanged (k + 1) (drop (k + 1) q)) (swap_equal xs k (slice_index q k) (omega (arith, place, room, wide)) (within k (omega (arith, place))) (same k (omega (arith, place))))
     ∙ exchanged-skip d (k + 1) i q xs (omega (arith, place)) room wide within same
 
--- the entries while the rows are gone through
+-- the entries once the first k rows are gone through
 exchanged_to : List ℕ → Matrix → ℕ → ℕ → ℕ → ℕ
 exchanged_to q W k i j = if nat_lt i k then slice_index (exchanged_row q W i) j else at W i j
 
-module _ (q : List ℕ) (W : Matrix) where
-  at-exchanged_later : (k i j : ℕ) → i < W.rows → j < W.cols → k ≤ i → at (with_exchanged q k W) i j ≡ at W i j
-  unfolding exchanged_to
-  at-exchanged_later k i j below within later = at-table W.rows W.cols (exchanged_to q W k) i j below within ∙ rw (le-ltb i k later) refl
-
-  -- none is at first
-  pub exchanged-start : IsMatrix W → W ≡ with_exchanged q 0 W
-  unfolding exchanged_to
-  exchanged-start matrix =
-      ap (λ (rows : List (List ℕ)). record W { entries = rows })
-      (same_table W.rows W.cols (exchanged_to q W 0) W.entries matrix.height matrix.width (λ i j below within. sym (rw (le-ltb i 0 (omega arith)) refl)))
-
-  -- one row more
-  pub exchanged-more : (k : ℕ) → IsMatrix W → k < W.rows
-      → with_row (with_exchanged q k W) k (exchanged_row q (with_exchanged q k W) k) ≡ with_exchanged q (k + 1) W
-  unfolding exchanged_to
-  exchanged-more k matrix inside =
-      let wide = matrix.width k inside in
-      let long = length-row-table W.rows W.cols (exchanged_to q W k) k inside in
-      let same : row (with_exchanged q k W) k ≡ row W k
-      = ext_get_or 0 _ _ (long ∙ sym wide) (λ j below. at-exchanged_later k k j inside (omega (arith, below, long)) (omega arith)) in
-      sym (with_row-matrix_of W.field W.rows W.cols (exchanged_to q W k) (exchanged_to q W (k + 1)) k (exchanged_row q (with_exchanged q k W) k) inside
-      (length-exchanged k (drop k q) (row (with_exchanged q k W) k) ∙ long)
-      (λ j within. ap (λ (xs : List ℕ). slice_index (exchanged k (drop k q) xs) j) same ∙ sym (rw (lt-ltb k (k + 1) (omega arith)) refl))
-      (λ i j below within away. ⊎_elim
-      (λ (before : i < k). rw (lt-ltb i k before, lt-ltb i (k + 1) (omega (arith, before))) refl)
-      (λ (later : k ≤ i). rw (le-ltb i k later, le-ltb i (k + 1) (omega (arith, later, away))) refl)
-      (cases_lt i k)))
+-- one row more
+pub exchanged-more : (q : List ℕ) (W : Matrix) (k : ℕ) → IsMatrix W → k < W.rows
+    → with_row (with_exchanged q k W) k (exchanged_row q (with_exchanged q k W) k) ≡ with_exchanged q (k + 1) W
+exchanged-more q W k matrix inside =
+    let g : ℕ → ℕ → ℕ = λ i j. slice_index (exchanged_row q W i) j in
+    let same : row (with_exchanged q k W) k ≡ row W k = row-done_later g W matrix k k inside (omega arith) in
+    ap (λ (xs : List ℕ). with_row (with_exchanged q k W) k (exchanged k (drop k q) xs)) same
+    ∙ done_to-more g W k (exchanged_row q W k) inside (length-exchanged k (drop k q) (row W k) ∙ matrix.width k inside) (λ j within. refl)
 
 module _ (A W : Matrix) (p q : List ℕ) (laws : FieldLaws A.field) (is_matrix : IsMatrix A) (held : HoldsPle A p q W) where
   L : Matrix

@@ -1,4 +1,6 @@
 pub mod Clearing
 pub mod ExchangedColumns
 pub mod Exchanges
+pub mod RowByRow
+pub mod Echelons
 pub mod Eliminated

@@ -1,3 +1,4 @@
 pub mod Columns
 pub mod Elimination
 pub mod Held
+pub mod Parts

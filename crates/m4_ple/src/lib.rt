@@ -2,6 +2,8 @@
 #![tactic(auto)]
 
 mod columns;
+mod echelon;
 mod plain;
 
+pub use echelon::keep_echelon;
 pub use plain::ple_plain;

@@ -1,12 +1,13 @@
-use Rattle.std.proofs.Common.{◌≡◌, ◌∙◌, ap, arith}
+use Rattle.std.proofs.Common.{◌≡◌, ◌∙◌, ap, arith, slice_index}
 use Rattle.m4_model.specs.Matrix.{with_row}
 use Rattle.m4_mzd.specs.Window.{Window, content, showing}
 use Rattle.m4_ple.specs.Columns.{exchanged_row}
-use Rattle.m4_ple.proofs.ExchangedColumns.{exchanged-start, exchanged-more}
+use Rattle.m4_ple.proofs.ExchangedColumns.{exchanged-more}
+use Rattle.m4_ple.proofs.RowByRow.{done_to-start}
 use Rattle.m4_ple.proofs.columns.exchange_columns.Goals as goal
 
 pub loop-i-init : goal.loop-i-init
-loop-i-init c = ap (showing c.args.a.now) (exchanged-start c.args.pivots.now (content c.args.a.now) c.rows-rows.ensures.shape.matrix)
+loop-i-init c = ap (showing c.args.a.now) (done_to-start (λ i j. slice_index (exchanged_row c.args.pivots.now (content c.args.a.now) i) j) (content c.args.a.now) c.rows-rows.ensures.shape.matrix)
 
 pub loop-i-preserved : goal.loop-i-preserved
 loop-i-preserved c =

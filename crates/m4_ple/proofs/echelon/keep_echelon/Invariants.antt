@@ -1,0 +1,11 @@
+use Rattle.std.proofs.Common.{◌≡◌, ℕ, length, slice_index, nat_lt, nat_le, ◌&&◌, if◌then◌else◌}
+use Rattle.m4_model.specs.Matrix.{at}
+use Rattle.m4_mzd.specs.Window.{content, showing}
+use Rattle.m4_ple.specs.Parts.{echelon_entry}
+use Rattle.m4_ple.proofs.RowByRow.{done_to}
+use Rattle.m4_ple.proofs.echelon.keep_echelon.Given as goal
+
+abbrev pub invariant-loop-i : goal.invariant-loop-i
+invariant-loop-i l =
+    (l.a ≡ showing l.fn.a (done_to (echelon_entry l.pivots (content l.fn.a)) (content l.fn.a) l.i))
+    × (l.spare ≡ showing l.fn.spare (content l.spare))
