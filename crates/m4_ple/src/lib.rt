@@ -3,7 +3,9 @@
 
 mod columns;
 mod echelon;
+mod factors;
 mod plain;
 
 pub use echelon::keep_echelon;
+pub use factors::{Factors, ple_factors, pluq_factors};
 pub use plain::ple_plain;
