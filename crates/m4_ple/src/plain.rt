@@ -25,7 +25,9 @@ pub fn ple_plain(a: &mut WinMut, p: &mut [u32], q: &mut [u32]) -> u32
     requires pivots { (length q.old ≡ a.old.rows) ⊎ (a.old.cols ≤ length q.old) }
     ensures kept { a.new ≡ showing a.old (content a.new) }
     ensures exchanges { AreSwaps a.old.rows p.new }
+    ensures all { length p.new ≡ length p.old }
     ensures stay { (i : ℕ) → result ≤ i → i < a.old.rows → slice_index p.new i ≡ i }
+    ensures room { length q.new ≡ length q.old }
     ensures rank { result ≤ length q.new }
     ensures factors { HoldsPle (content a.old) (swaps a.old.rows p.new) (take result q.new) (content a.new) }
 {

@@ -1,11 +1,11 @@
 -- A solution is read off the reduced form of the equations beside their right sides, or there is none.
-use Rattle.std.proofs.Common.{◌≡◌, ◌≢◌, ℕ, ◌+◌, ◌-◌, ◌<◌, ◌≤◌, ◌⊎◌, inl, inr, ⊎_elim, refl, sym, ◌∙◌, ap, ap₂, subst, arith, List, length, slice_index, Contains, ◌==◌, if◌then◌else◌}
+use Rattle.std.proofs.Common.{◌≡◌, ◌≢◌, ℕ, ◌+◌, ◌-◌, ◌<◌, ◌≤◌, ◌⊎◌, inl, inr, ⊎_elim, refl, sym, ◌∙◌, ap, ap₂, subst, arith, List, length, take, slice_index, Contains, ◌==◌, if◌then◌else◌}
 use Rattle.std.proofs.lemmas.Bool.{cases_lt, cases_eq, eq-eqb, ne_eqb}
-use Rattle.m4_model.specs.Field.{Field, IsElement, mul, sum_below}
-use Rattle.m4_model.specs.Matrix.{Matrix, IsMatrix, HasShape, at, matrix_of, product}
+use Rattle.m4_model.specs.Field.{Field, IsElement, gf2, mul, sum_below}
+use Rattle.m4_model.specs.Matrix.{Matrix, IsMatrix, HasShape, at, matrix_of, identity, product}
 use Rattle.m4_model.specs.Shapes.{beside}
-use Rattle.m4_model.specs.Rank.{IsFree, ArePivots}
-use Rattle.m4_model.specs.Forms.{IsReduced, IsSolution, NoSolution}
+use Rattle.m4_model.specs.Rank.{IsRising, IsFree, ArePivots}
+use Rattle.m4_model.specs.Forms.{IsReduced, IsInverse, Singular, IsSolution, NoSolution}
 use Rattle.m4_model.proofs.FieldLaws.{FieldLaws}
 use Rattle.m4_model.proofs.FieldLemmas.{sum_below-same}
 use Rattle.m4_model.proofs.SumLemmas.{sum_below-zero, sum_below-single, mul-zero_left}
@@ -14,7 +14,10 @@ use Rattle.m4_model.proofs.ShapeLemmas.{HasShape-own, IsElement-shape, at-produc
 use Rattle.m4_model.proofs.BlockLemmas.{at-beside_left, at-beside_right, HasShape-beside}
 use Rattle.m4_model.proofs.EchelonLemmas.{place_of, Contains-entry}
 use Rattle.m4_model.proofs.FormLemmas.{pivots_of_reduced}
-use Rattle.m4_model.proofs.SingularLemmas.{no_solution_from_unfree}
+use Rattle.m4_model.proofs.SingularLemmas.{singular_from_free, no_solution_from_unfree, inverse_from_right}
+use Rattle.m4_model.proofs.RankLemmas.{Contains_none}
+use Rattle.m4_model.proofs.RingLemmas.{HasShape-one}
+use Rattle.m4_solve.specs.Reduction.{IsReducedAt, IsReadOff}
 
 module _ (A B : Matrix) (laws : FieldLaws A.field) (is_matrix : IsMatrix A) (b : HasShape A.field A.rows B.cols B) where
   a : HasShape A.field A.rows A.cols A
@@ -118,3 +121,74 @@ module _ (A B : Matrix) (laws : FieldLaws A.field) (is_matrix : IsMatrix A) (b :
             (λ (none : (s : ℕ) → s < length form.pivots → slice_index form.pivots s ≢ j). elsewhere j t inside within none)
             (place_of form.pivots j);
       }
+
+-- what a reduced form with known pivots tells
+module _ {R M : Matrix} {q : List ℕ} (reduced : IsReducedAt R M q) where
+  pub rising_at : IsRising q
+  rising_at = subst IsRising reduced.at_pivots reduced.form.reduced.echelon.rising
+
+  pub rank_at : length q ≤ M.rows
+  rank_at =
+      let within = reduced.form.reduced.echelon.within in
+      let same = ap length reduced.at_pivots in
+      let rows = reduced.form.shape.rows in
+      omega (arith, within, same, rows)
+
+-- the same for pivots and a matrix that are known by other names
+pub pivots_seen : (r : ℕ) (items seen : List ℕ) (R M N : Matrix) → seen ≡ items → M ≡ N → IsReducedAt R M (take r items) → IsReducedAt R N (take r seen)
+pivots_seen r items seen R M N same made reduced =
+    subst (λ (q : List ℕ). IsReducedAt R N q) (sym (ap (take r) same)) (subst (λ (M : Matrix). IsReducedAt R M (take r items)) made reduced)
+
+module _ (A B R : Matrix) (q : List ℕ) (laws : FieldLaws A.field) (is_matrix : IsMatrix A) (b : HasShape A.field A.rows B.cols B) (over : A.field ≡ gf2)
+    (reduced : IsReducedAt R (beside A B) q) where
+  -- a pivot among the right sides
+  pub no_solution_at : (s : ℕ) → s < length q → A.cols ≤ slice_index q s → NoSolution A B
+  no_solution_at s inside past =
+      none_from_pivot A B laws is_matrix b R reduced.form s
+      (subst (λ (q : List ℕ). s < length q) (sym reduced.at_pivots) inside) (subst (λ (q : List ℕ). A.cols ≤ slice_index q s) (sym reduced.at_pivots) past)
+
+  -- none
+  pub solution_at : (X : Matrix) → IsReadOff R q A.cols X → ((s : ℕ) → s < length q → slice_index q s < A.cols) → IsSolution X A B
+  solution_at X read left =
+      let cols = reduced.form.shape.cols in
+      let right : R.cols - A.cols ≡ B.cols = omega (arith, cols) in
+      let again : IsReadOff R reduced.form.pivots A.cols X = subst (λ (q : List ℕ). IsReadOff R q A.cols X) (sym reduced.at_pivots) read in
+      let shape : HasShape A.field A.cols B.cols X
+      = subst (λ (F : Field). HasShape F A.cols B.cols X) (sym over) (subst (λ (k : ℕ). HasShape gf2 A.cols k X) right read.shape) in
+      solution_read A B laws is_matrix b R reduced.form X shape
+      (λ s t inside within. again.at_pivot s t inside (omega (arith, within, right)))
+      (λ j t below within none. again.elsewhere j t below (omega (arith, within, right)) none)
+      (subst (λ (q : List ℕ). (s : ℕ) → s < length q → slice_index q s < A.cols) (sym reduced.at_pivots) left)
+
+  -- a column that is no pivot is free
+  pub free_at : (j : ℕ) → j < A.cols → ((s : ℕ) → s < length q → slice_index q s ≢ j) → IsFree A j
+  free_at j within none =
+      let pivots = pivots_of_reduced (beside A B) laws (HasShape-beside (HasShape-own A is_matrix) b).is_matrix R reduced.form in
+      free_from_beside A B laws is_matrix b j within
+      (pivots.others j (omega (arith, within))
+      (Contains_none reduced.form.pivots j (subst (λ (q : List ℕ). (s : ℕ) → s < length q → slice_index q s ≢ j) (sym reduced.at_pivots) none)))
+
+  -- and a pivot isn't
+  pub unfree_at : (s j : ℕ) → s < length q → slice_index q s ≡ j → j < A.cols → IsFree A j → ⊥
+  unfree_at s j inside here within free =
+      let pivots = pivots_of_reduced (beside A B) laws (HasShape-beside (HasShape-own A is_matrix) b).is_matrix R reduced.form in
+      pivots.unfree s (subst (λ (q : List ℕ). s < length q) (sym reduced.at_pivots) inside)
+      (subst (IsFree (beside A B)) (sym (ap (λ (q : List ℕ). slice_index q s) reduced.at_pivots ∙ here)) (free-beside A B laws is_matrix b j within free))
+
+-- beside the identity: the inverse, or the matrix is singular
+module _ (A R : Matrix) (q : List ℕ) (laws : FieldLaws A.field) (is_matrix : IsMatrix A) (over : A.field ≡ gf2) (square : A.cols ≡ A.rows)
+    (reduced : IsReducedAt R (beside A (identity A.field A.rows)) q) where
+  one : HasShape A.field A.rows A.rows (identity A.field A.rows)
+  one = HasShape-one A.field A.rows is_matrix.over_field
+
+  pub singular_at : (j : ℕ) → j < A.cols → ((s : ℕ) → s < length q → slice_index q s ≢ j) → Singular A
+  singular_at j within none = singular_from_free A laws is_matrix square j within (free_at A (identity A.field A.rows) R q laws is_matrix one over reduced j within none)
+
+  pub inverse_at : (X : Matrix) → IsReadOff R q A.cols X → ((s : ℕ) → s < A.cols → (s < length q) × (slice_index q s ≡ s)) → IsInverse X A
+  inverse_at X read all =
+      let few = rank_at reduced in
+      let solution = solution_at A (identity A.field A.rows) R q laws is_matrix one over reduced X read
+      (λ s inside. let own = (all s (omega (arith, inside, few, square))).1 in omega (arith, own, inside, few, square)) in
+      inverse_from_right A laws is_matrix X square
+      (λ j within free. unfree_at A (identity A.field A.rows) R q laws is_matrix one over reduced j j (all j within).0 (all j within).1 within free)
+      (subst (λ (k : ℕ). HasShape A.field k A.rows X) square solution.shape) solution.solves

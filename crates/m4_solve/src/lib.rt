@@ -1,4 +1,12 @@
 //! What is asked about a matrix over GF(2): its reduced form, its rank, its inverse, solutions and its kernel.
 #![tactic(auto)]
 
+mod answers;
+mod forms;
 mod reduce;
+mod room;
+mod systems;
+
+pub use answers::{Inverse, Solution};
+pub use forms::{echelon, rank};
+pub use systems::{invert, solve};

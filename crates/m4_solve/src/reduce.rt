@@ -21,6 +21,8 @@ pub(crate) fn reduce(a: &mut WinMut, p: &mut [u32], q: &mut [u32], spare: &mut W
     requires same_cols { spare.old.cols ≡ a.old.cols }
     ensures kept { a.new ≡ showing a.old (content a.new) }
     ensures spare { spare.new ≡ showing spare.old (content spare.new) }
+    ensures exchanges { length p.new ≡ length p.old }
+    ensures room { length q.new ≡ length q.old }
     ensures rank { result ≤ length q.new }
     ensures reduced { IsReducedAt (content a.new) (content a.old) (take result q.new) }
 {

@@ -1,0 +1,22 @@
+use Rattle.std.proofs.Common.{◌≡◌, ◌≤◌, ℕ, ◌∙◌, sym, subst, ap, arith, take, length, length-take}
+use Rattle.m4_model.specs.Matrix.{Matrix, IsMatrix}
+use Rattle.m4_model.specs.Rank.{IsRank}
+use Rattle.m4_model.proofs.Gf2Lemmas.{gf2_laws}
+use Rattle.m4_model.proofs.RankLemmas.{rank_of_ple}
+use Rattle.m4_mzd.specs.Window.{content}
+use Rattle.m4_mzd.specs.Seen.{shown}
+use Rattle.m4_solve.proofs.forms.rank.Goals as goal
+
+pub returns : goal.returns
+returns c =
+    let same : content c.all_mut-all.result.0 ≡ shown c.args.a.now = c.all_mut-all.ensures.content ∙ c.in_ok-copy.ensures in
+    let matrix : IsMatrix (content c.all_mut-all.result.0) = subst IsMatrix (sym same) c.rows.ensures.matrix in
+    let held = c.ple_plain-rank.ensures.factors in
+    let r = c.ple_plain-rank.result in
+    let q = c.ple_plain-rank.new.q in
+    let front = length-take r q in
+    let within = c.ple_plain-rank.ensures.rank in
+    let long : length (take r q) ≡ r = omega (arith, front, within) in
+    subst (λ (A : Matrix). IsRank A r) same
+    (subst (λ (k : ℕ). IsRank (content c.all_mut-all.result.0) k) long
+    (rank_of_ple (content c.all_mut-all.result.0) _ (take r q) _ held.l held.e gf2_laws matrix held.factors))

@@ -1,0 +1,27 @@
+use Rattle.std.proofs.Common.{◌≡◌, ◌≤◌, ℕ, zero, suc, List, [], ◌∷◌, refl, ◌∙◌, sym, subst, ap, ap₂, take, drop, length, ◌++◌, arith}
+use Rattle.std.proofs.lemmas.List.{take-append-le, take_all}
+use Rattle.m4_model.specs.Matrix.{Matrix}
+use Rattle.m4_mzd.specs.Window.{Window, content}
+use Rattle.m4_solve.specs.Reduction.{IsReducedAt}
+use Rattle.m4_solve.proofs.room.Room.reduce.Goals as goal
+
+-- the front of a front
+take_front : (r n : ℕ) (xs : List ℕ) → r ≤ n → take r (take n xs) ≡ take r xs
+take_front zero n xs small = refl
+take_front (suc r) zero xs small = absurd (omega (arith, small))
+take_front (suc r) (suc n) [] small = refl
+take_front (suc r) (suc n) (x ∷ xs) small = ap (λ (rest : List ℕ). x ∷ rest) (take_front r n xs (omega (arith, small)))
+
+-- the front of what is written back to a vector
+front_back : (r n : ℕ) (q rest : List ℕ) → r ≤ length q → length q ≡ n → take r (take n (q ++ rest)) ≡ take r q
+front_back r n q rest within fits = take_front r n (q ++ rest) (omega (arith, within, fits)) ∙ take-append-le r q rest within
+
+pub returns-clause-reduced : goal.returns-clause-reduced
+returns-clause-reduced c =
+    let q = c.reduce-rank.new.q in
+    let now : c.put_all-2.new.self ≡ content c.reduce-rank.new.a = c.put_all-2.ensures in
+    let rows = ap (λ (V : Window). V.rows) c.reduce-rank.ensures.kept in
+    subst (λ (pivots : List ℕ). IsReducedAt c.put_all-2.new.self c.args.a.now pivots)
+    (sym (front_back c.reduce-rank.result c.args.self.now.pivots.len q _ c.reduce-rank.ensures.rank (c.reduce-rank.ensures.room ∙ c.deref_mut-2.ensures.len)))
+    (subst (λ (R : Matrix). IsReducedAt R c.args.a.now (take c.reduce-rank.result q)) (sym now)
+    (subst (λ (A : Matrix). IsReducedAt (content c.reduce-rank.new.a) A (take c.reduce-rank.result q)) c.all_mut-all.ensures.content c.reduce-rank.ensures.reduced))

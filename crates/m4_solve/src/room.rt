@@ -1,0 +1,48 @@
+//! What a reduction needs beside the matrix.
+
+ghost use Rattle.std.specs.Prelude.{◌≡◌, ◌⊎◌, ◌≤◌, ◌<◌, ◌^◌, length, take, IfOk};
+ghost use Rattle.m4_solve.specs.Reduction.{IsReducedAt, HasRoom};
+
+use crate::reduce::reduce;
+use m4_model::NoMemory;
+use m4_mzd::Mzd;
+use std::alloc::Global;
+
+/// Room for a reduction: the exchanges of rows, the pivots, and a row.
+#[derive(Drop)]
+pub(crate) struct Room {
+    exchanges: Vec<u32>,
+    pub(crate) pivots: Vec<u32>,
+    row: Mzd,
+}
+
+impl Room {
+    /// Room for a matrix of so many rows and columns.
+    pub(crate) fn new(alloc: Global, rows: u32, cols: u32) -> Result<Room, NoMemory>
+        requires few_rows { rows ≤ 2 ^ 24 }
+        requires few_cols { cols ≤ 2 ^ 24 }
+        ensures { IfOk result (HasRoom rows cols) }
+    {
+        let least = if rows < cols { rows } else { cols };
+        Ok(Room {
+            exchanges: vec![in alloc; 0u32; rows as usize]?,
+            pivots: vec![in alloc; 0u32; least as usize]?,
+            row: Mzd::zeros(alloc, 1, cols)?,
+        })
+    }
+
+    /// Makes of the matrix its reduced row echelon form, and answers its rank, with the pivots in the front of `pivots`.
+    pub(crate) fn reduce(&mut self, a: &mut Mzd) -> u32
+        requires { HasRoom a.old.rows a.old.cols self.old }
+        ensures room { HasRoom a.old.rows a.old.cols self.new }
+        ensures rank { result ≤ length self.new.pivots.items }
+        ensures reduced { IsReducedAt a.new a.old (take result self.new.pivots.items) }
+    {
+        let (mut all, home) = a.all_mut();
+        let (mut spare, spare_home) = self.row.all_mut();
+        let rank = reduce(&mut all, &mut self.exchanges, &mut self.pivots, &mut spare);
+        self.row.put_all(spare, spare_home);
+        a.put_all(all, home);
+        rank
+    }
+}
