@@ -1,4 +1,5 @@
 pub mod KernelLemmas
+pub mod KernelRows
 pub mod ReadOff
 pub mod Risings
 pub mod Solutions

@@ -127,6 +127,14 @@ module _ {R M : Matrix} {q : List ℕ} (reduced : IsReducedAt R M q) where
   pub rising_at : IsRising q
   rising_at = subst IsRising reduced.at_pivots reduced.form.reduced.echelon.rising
 
+  pub columns_at : (s : ℕ) → s < length q → slice_index q s < R.cols
+  columns_at s inside =
+      let low = reduced.form.reduced.echelon.columns s (subst (λ (q : List ℕ). s < length q) (sym reduced.at_pivots) inside) in
+      subst (λ (q : List ℕ). slice_index q s < R.cols) reduced.at_pivots low
+
+  pub rows_at : length q ≤ R.rows
+  rows_at = subst (λ (q : List ℕ). length q ≤ R.rows) reduced.at_pivots reduced.form.reduced.echelon.within
+
   pub rank_at : length q ≤ M.rows
   rank_at =
       let within = reduced.form.reduced.echelon.within in

@@ -8,7 +8,6 @@ ghost use Rattle.m4_model.specs.Forms.{IsReduced, IsKernel};
 ghost use Rattle.m4_mzd.specs.Window.{content, showing};
 ghost use Rattle.m4_mzd.specs.Seen.{shown};
 
-
 use crate::room::Room;
 use m4_model::NoMemory;
 use m4_mzd::{Mzd, Win, WinMut};
@@ -42,7 +41,7 @@ pub fn rank(alloc: Global, a: &Win) -> Result<u32, NoMemory>
 }
 
 /// A matrix of its own with what the window shows.
-fn copied(alloc: Global, a: &Win) -> Result<Mzd, NoMemory>
+pub(crate) fn copied(alloc: Global, a: &Win) -> Result<Mzd, NoMemory>
     ensures { IfOk result (λ m. m ≡ shown a.now) }
 {
     let mut copy = Mzd::zeros(alloc, a.rows(), a.cols())?;

@@ -2,11 +2,14 @@
 #![tactic(auto)]
 
 mod answers;
+mod basis;
 mod forms;
+
 mod reduce;
 mod room;
 mod systems;
 
 pub use answers::{Inverse, Solution};
+pub use basis::kernel;
 pub use forms::{echelon, rank};
 pub use systems::{invert, solve};

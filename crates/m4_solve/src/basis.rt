@@ -1,0 +1,86 @@
+//! The kernel of a matrix: a basis of what it takes to zero.
+
+ghost use Rattle.std.specs.Prelude.{◌≡◌, ◌≢◌, ℕ, ◌<◌, ◌≤◌, length, slice_index, IfOk};
+ghost use Rattle.m4_model.specs.Matrix.{at};
+ghost use Rattle.m4_model.specs.Rank.{IsRising};
+ghost use Rattle.m4_model.specs.Forms.{IsKernel};
+ghost use Rattle.m4_mzd.specs.Seen.{shown};
+ghost use Rattle.m4_solve.specs.Kernel.{AreOthers, IsKernelRow, IsKernelBasis};
+
+use crate::forms::copied;
+use crate::room::Room;
+use m4_model::NoMemory;
+use m4_mzd::{Mzd, Win};
+use std::alloc::Global;
+
+/// A basis of the kernel of a matrix: as many rows as it has free columns, and the identity on these.
+///
+/// The matrix is brought to its reduced form. The row of a free column is read off that column: its entries go to the
+/// pivots.
+pub fn kernel(alloc: Global, a: &Win) -> Result<Mzd, NoMemory>
+    ensures { IfOk result (λ k. IsKernel k (shown a.now)) }
+{
+    let mut reduced = copied(alloc, a)?;
+    let mut room = Room::new(alloc, reduced.rows(), reduced.cols())?;
+    let rank = room.reduce(&mut reduced) as usize;
+    let pivots = &room.pivots[..rank];
+    let free = others_below(alloc, pivots, reduced.cols())?;
+    Ok(basis_for(alloc, &reduced, pivots, &free)?)
+}
+
+/// The numbers below `n` that aren't among these rising ones.
+fn others_below(alloc: Global, rising: &[u32], n: u32) -> Result<Vec<u32>, NoMemory>
+    requires { IsRising rising.now }
+    ensures { IfOk result (λ others. AreOthers n rising.now others.items) }
+{
+    let mut others = Vec::new(alloc);
+    let mut next = 0;
+    for j in 0..n {
+        if next < rising.len() && rising[next] == j {
+            next += 1;
+        } else {
+            others.push(j)?;
+        }
+    }
+    Ok(others)
+}
+
+/// The basis that belongs to these free columns.
+fn basis_for(alloc: Global, r: &Mzd, pivots: &[u32], free: &[u32]) -> Result<Mzd, NoMemory>
+    requires rising { IsRising pivots.now }
+    requires in_rows { length pivots.now ≤ r.now.rows }
+    requires in_cols { (s : ℕ) → s < length pivots.now → slice_index pivots.now s < r.now.cols }
+    requires free { AreOthers r.now.cols pivots.now free.now }
+    ensures { IfOk result (IsKernelBasis r.now pivots.now free.now) }
+{
+    let cols = r.cols();
+    let mut k = Mzd::zeros(alloc, free.len() as u32, cols)?;
+    for t in 0..free.len() {
+        fill_row(&mut k, t as u32, r, pivots, free[t]);
+    }
+    let _shape = k.rows();
+    Ok(k)
+}
+
+/// Fills row `t`, which is zero, for a free column: 1 there, and at the pivots the entries of that column.
+fn fill_row(k: &mut Mzd, t: u32, r: &Mzd, pivots: &[u32], free: u32)
+    requires rising { IsRising pivots.now }
+    requires in_rows { length pivots.now ≤ r.now.rows }
+    requires in_cols { (s : ℕ) → s < length pivots.now → slice_index pivots.now s < r.now.cols }
+    requires is_free { (s : ℕ) → s < length pivots.now → slice_index pivots.now s ≢ free }
+    requires column { free < r.now.cols }
+    requires row { t < k.old.rows }
+    requires same_cols { k.old.cols ≡ r.now.cols }
+    requires zeros { (j : ℕ) → j < k.old.cols → at k.old t j ≡ 0 }
+    ensures rows { k.new.rows ≡ k.old.rows }
+    ensures cols { k.new.cols ≡ k.old.cols }
+    ensures row { IsKernelRow r.now pivots.now free t k.new }
+    ensures others { (i j : ℕ) → i ≢ t → at k.new i j ≡ at k.old i j }
+{
+    let _rows = k.rows();
+    let _r = r.rows();
+    k.put(t, free, true);
+    for s in 0..pivots.len() {
+        k.put(t, pivots[s], r.get(s as u32, free));
+    }
+}
