@@ -4,8 +4,10 @@
 mod columns;
 mod echelon;
 mod factors;
+mod in_place;
 mod plain;
 
 pub use echelon::keep_echelon;
 pub use factors::{Factors, ple_factors, pluq_factors};
+pub use in_place::{ple, pluq};
 pub use plain::ple_plain;

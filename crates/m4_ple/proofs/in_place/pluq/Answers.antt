@@ -1,0 +1,53 @@
+use Rattle.std.proofs.Common.{◌≡◌, ◌≤◌, ◌<◌, ℕ, List, ◌∙◌, sym, subst, ap, ap₂, arith, take, length, length-take, slice_index}
+use Rattle.m4_model.specs.Matrix.{Matrix}
+use Rattle.m4_model.specs.Shapes.{swaps}
+use Rattle.m4_model.proofs.Gf2Lemmas.{gf2_laws}
+use Rattle.m4_model.proofs.ExchangeLemmas.{rising_room}
+use Rattle.m4_mzd.specs.Window.{Window, content, showing}
+use Rattle.m4_ple.specs.Columns.{with_exchanged}
+use Rattle.m4_ple.specs.Held.{HoldsPluq}
+use Rattle.m4_ple.proofs.ExchangedColumns.{pluq_held}
+use Rattle.m4_ple.proofs.in_place.pluq.Goals as goal
+
+pub exchange_columns-requires-clause-in_rows : goal.exchange_columns-requires-clause-in_rows
+exchange_columns-requires-clause-in_rows g c =
+    let held = c.ple-rank.ensures.factors in
+    let within = held.factors.e_form.within in
+    let rows = held.factors.e_shape.rows in
+    let same = ap (λ (V : Window). V.rows) c.ple-rank.ensures.kept in
+    omega (arith, within, rows, same)
+
+pub exchange_columns-requires-clause-room : goal.exchange_columns-requires-clause-room
+exchange_columns-requires-clause-room g c =
+    let held = c.ple-rank.ensures.factors in
+    let room = rising_room (take c.ple-rank.result c.ple-rank.new.q) held.e.cols held.factors.e_form.rising held.factors.e_form.columns in
+    let cols = held.factors.e_shape.cols in
+    let same = ap (λ (V : Window). V.cols) c.ple-rank.ensures.kept in
+    omega (arith, room, cols, same)
+
+pub exchange_columns-requires-clause-in_cols : goal.exchange_columns-requires-clause-in_cols
+exchange_columns-requires-clause-in_cols g c k inside =
+    let held = c.ple-rank.ensures.factors in
+    let low = held.factors.e_form.columns k inside in
+    let cols = held.factors.e_shape.cols in
+    let same = ap (λ (V : Window). V.cols) c.ple-rank.ensures.kept in
+    omega (arith, low, cols, same)
+
+pub returns-clause-kept : goal.returns-clause-kept
+returns-clause-kept g c =
+    let q = take c.ple-rank.result c.ple-rank.new.q in
+    c.exchange_columns.ensures
+    ∙ ap (λ (V : Window). showing V (with_exchanged q (length q) (content c.ple-rank.new.a))) c.ple-rank.ensures.kept
+    ∙ ap (showing c.args.a.now) (sym (ap content c.exchange_columns.ensures))
+
+pub returns-clause-factors : goal.returns-clause-factors
+returns-clause-factors g c =
+    let A = content c.args.a.now in
+    let r = c.ple-rank.result in
+    let q = take r c.ple-rank.new.q in
+    let front = length-take r c.ple-rank.new.q in
+    let within = c.ple-rank.ensures.rank in
+    let long : length q ≡ r = omega (arith, front, within) in
+    subst (λ (W : Matrix). HoldsPluq A (swaps A.rows c.ple-rank.new.p) (swaps A.cols q) r W) (sym (ap content c.exchange_columns.ensures))
+    (subst (λ (k : ℕ). HoldsPluq A (swaps A.rows c.ple-rank.new.p) (swaps A.cols q) k (with_exchanged q (length q) (content c.ple-rank.new.a))) long
+    (pluq_held A (content c.ple-rank.new.a) (swaps A.rows c.ple-rank.new.p) q gf2_laws c.rows-rows.ensures.shape.matrix c.ple-rank.ensures.factors))
