@@ -1,3 +1,4 @@
 pub mod Answers
+pub mod Context
 pub mod Kernel
 pub mod Reduction

@@ -5,24 +5,30 @@ ghost use Rattle.m4_model.specs.Matrix.{at};
 ghost use Rattle.m4_model.specs.Rank.{IsRising};
 ghost use Rattle.m4_model.specs.Forms.{IsKernel};
 ghost use Rattle.m4_mzd.specs.Seen.{shown};
+ghost use Rattle.m4_solve.specs.Context.{Serves, AreSameTables};
 ghost use Rattle.m4_solve.specs.Kernel.{AreOthers, IsKernelRow, IsKernelBasis};
 
+use crate::context::Ctx;
 use crate::forms::copied;
 use crate::room::Room;
 use m4_model::NoMemory;
-use m4_mzd::{Mzd, Win};
+use m4_mzd::{AddMul, Mzd, Win};
 use std::alloc::Global;
 
 /// A basis of the kernel of a matrix: as many rows as it has free columns, and the identity on these.
 ///
 /// The matrix is brought to its reduced form. The row of a free column is read off that column: its entries go to the
 /// pivots.
-pub fn kernel(alloc: Global, a: &Win) -> Result<Mzd, NoMemory>
-    ensures { IfOk result (λ k. IsKernel k (shown a.now)) }
+pub fn kernel<M: AddMul>(alloc: Global, a: &Win, ctx: &mut Ctx<M>) -> Result<Mzd, NoMemory>
+    requires serves { Serves (M.limits ctx.old.engine) ctx.old.tables ctx.old.cutoff (shown a.now).rows (shown a.now).cols }
+    ensures kernel { IfOk result (λ k. IsKernel k (shown a.now)) }
+    ensures engine { M.limits ctx.new.engine ≡ M.limits ctx.old.engine }
+    ensures tables { AreSameTables ctx.old.tables ctx.new.tables }
+    ensures cutoff { ctx.new.cutoff ≡ ctx.old.cutoff }
 {
     let mut reduced = copied(alloc, a)?;
     let mut room = Room::new(alloc, reduced.rows(), reduced.cols())?;
-    let rank = room.reduce(&mut reduced) as usize;
+    let rank = room.reduce(&mut reduced, ctx) as usize;
     let pivots = &room.pivots[..rank];
     let free = others_below(alloc, pivots, reduced.cols())?;
     Ok(basis_for(alloc, &reduced, pivots, &free)?)

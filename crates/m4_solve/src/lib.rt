@@ -3,13 +3,14 @@
 
 mod answers;
 mod basis;
+mod context;
 mod forms;
-
 mod reduce;
 mod room;
 mod systems;
 
 pub use answers::{Inverse, Solution};
 pub use basis::kernel;
+pub use context::Ctx;
 pub use forms::{echelon, rank};
 pub use systems::{invert, solve};

@@ -1,11 +1,13 @@
 //! What a reduction needs beside the matrix.
 
 ghost use Rattle.std.specs.Prelude.{◌≡◌, ◌⊎◌, ◌≤◌, ◌<◌, ◌^◌, length, take, IfOk};
+ghost use Rattle.m4_solve.specs.Context.{Serves, AreSameTables};
 ghost use Rattle.m4_solve.specs.Reduction.{IsReducedAt, HasRoom};
 
+use crate::context::Ctx;
 use crate::reduce::reduce;
 use m4_model::NoMemory;
-use m4_mzd::Mzd;
+use m4_mzd::{AddMul, Mzd};
 use std::alloc::Global;
 
 /// Room for a reduction: the exchanges of rows, the pivots, and a row.
@@ -32,15 +34,25 @@ impl Room {
     }
 
     /// Makes of the matrix its reduced row echelon form, and answers its rank, with the pivots in the front of `pivots`.
-    pub(crate) fn reduce(&mut self, a: &mut Mzd) -> u32
-        requires { HasRoom a.old.rows a.old.cols self.old }
+    pub(crate) fn reduce<M: AddMul>(&mut self, a: &mut Mzd, ctx: &mut Ctx<M>) -> u32
+        requires room { HasRoom a.old.rows a.old.cols self.old }
+        requires serves { Serves (M.limits ctx.old.engine) ctx.old.tables ctx.old.cutoff a.old.rows a.old.cols }
         ensures room { HasRoom a.old.rows a.old.cols self.new }
         ensures rank { result ≤ length self.new.pivots.items }
         ensures reduced { IsReducedAt a.new a.old (take result self.new.pivots.items) }
+        ensures engine { M.limits ctx.new.engine ≡ M.limits ctx.old.engine }
+        ensures tables { AreSameTables ctx.old.tables ctx.new.tables }
+        ensures cutoff { ctx.new.cutoff ≡ ctx.old.cutoff }
     {
         let (mut all, home) = a.all_mut();
         let (mut spare, spare_home) = self.row.all_mut();
-        let rank = reduce(&mut all, &mut self.exchanges, &mut self.pivots, &mut spare);
+        let rank = reduce(
+            &mut all,
+            &mut self.exchanges,
+            &mut self.pivots,
+            &mut spare,
+            ctx,
+        );
         self.row.put_all(spare, spare_home);
         a.put_all(all, home);
         rank

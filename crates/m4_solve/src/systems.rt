@@ -8,29 +8,40 @@ ghost use Rattle.m4_model.specs.Rank.{IsRising};
 ghost use Rattle.m4_mzd.specs.Window.{content, showing};
 ghost use Rattle.m4_mzd.specs.Seen.{shown};
 ghost use Rattle.m4_solve.specs.Answers.{TellsInverse, TellsSolution};
+ghost use Rattle.m4_solve.specs.Context.{Serves, AreSameTables};
 ghost use Rattle.m4_solve.specs.Reduction.{IsReducedAt, IsReadOff};
 
 use crate::answers::{Inverse, Solution};
+use crate::context::Ctx;
 use crate::room::Room;
 use m4_model::NoMemory;
-use m4_mzd::{Mzd, Win, WinMut};
+use m4_mzd::{AddMul, Mzd, Win, WinMut};
 use m4_shape::augment;
 use std::alloc::Global;
 
 /// A solution X of A X = B, for each column of `b`, or that there is none.
 ///
 /// `a` and `b` have as many rows. Of all solutions it is the one whose rows at the free columns of A are zero: A beside B is
-/// brought to its reduced form, and X is read off its right side.
-pub fn solve(alloc: Global, a: &Win, b: &Win) -> Result<Solution, NoMemory>
+/// brought to its reduced form, and X is read off its right side. The context serves for both side by side.
+pub fn solve<M: AddMul>(
+    alloc: Global,
+    a: &Win,
+    b: &Win,
+    ctx: &mut Ctx<M>,
+) -> Result<Solution, NoMemory>
     requires same_rows { (shown b.now).rows ≡ (shown a.now).rows }
     requires few_cols { (shown a.now).cols + (shown b.now).cols ≤ 2 ^ 24 }
-    ensures { IfOk result (TellsSolution (shown a.now) (shown b.now)) }
+    requires serves { Serves (M.limits ctx.old.engine) ctx.old.tables ctx.old.cutoff (shown a.now).rows ((shown a.now).cols + (shown b.now).cols) }
+    ensures solution { IfOk result (TellsSolution (shown a.now) (shown b.now)) }
+    ensures engine { M.limits ctx.new.engine ≡ M.limits ctx.old.engine }
+    ensures tables { AreSameTables ctx.old.tables ctx.new.tables }
+    ensures cutoff { ctx.new.cutoff ≡ ctx.old.cutoff }
 {
     let _rows = a.rows();
     let _b = b.cols();
     let mut both = augment(alloc, a, b)?;
     let mut room = Room::new(alloc, both.rows(), both.cols())?;
-    let rank = room.reduce(&mut both) as usize;
+    let rank = room.reduce(&mut both, ctx) as usize;
     let pivots = &room.pivots[..rank];
     if !all_below(pivots, a.cols()) {
         return Ok(Solution::NoSolution);
@@ -41,17 +52,21 @@ pub fn solve(alloc: Global, a: &Win, b: &Win) -> Result<Solution, NoMemory>
 /// The inverse of a square matrix, or that it is singular.
 ///
 /// The matrix beside the identity is brought to its reduced form, whose right side is the inverse where the pivots are the
-/// columns of the matrix.
-pub fn invert(alloc: Global, a: &Win) -> Result<Inverse, NoMemory>
+/// columns of the matrix. The context serves for both side by side.
+pub fn invert<M: AddMul>(alloc: Global, a: &Win, ctx: &mut Ctx<M>) -> Result<Inverse, NoMemory>
     requires square { (shown a.now).cols ≡ (shown a.now).rows }
     requires few_cols { (shown a.now).cols + (shown a.now).cols ≤ 2 ^ 24 }
-    ensures { IfOk result (TellsInverse (shown a.now)) }
+    requires serves { Serves (M.limits ctx.old.engine) ctx.old.tables ctx.old.cutoff (shown a.now).rows ((shown a.now).cols + (shown a.now).cols) }
+    ensures inverse { IfOk result (TellsInverse (shown a.now)) }
+    ensures engine { M.limits ctx.new.engine ≡ M.limits ctx.old.engine }
+    ensures tables { AreSameTables ctx.old.tables ctx.new.tables }
+    ensures cutoff { ctx.new.cutoff ≡ ctx.old.cutoff }
 {
     let n = a.cols();
     let one = Mzd::identity(alloc, n)?;
     let mut both = augment(alloc, a, &one.all())?;
     let mut room = Room::new(alloc, both.rows(), both.cols())?;
-    let rank = room.reduce(&mut both) as usize;
+    let rank = room.reduce(&mut both, ctx) as usize;
     let pivots = &room.pivots[..rank];
     if !are_first(pivots, n) {
         return Ok(Inverse::Singular);

@@ -9,19 +9,19 @@ use Rattle.m4_solve.proofs.KernelLemmas.{kernel_read}
 use Rattle.m4_solve.proofs.basis.kernel.Goals as goal
 
 pub others_below-requires : goal.others_below-requires
-others_below-requires c = rising_at (pivots_seen c.reduce-rank.result _ _ _ _ _ c.deref.ensures.value refl c.reduce-rank.ensures.reduced)
+others_below-requires g c = rising_at (pivots_seen c.reduce-rank.result _ _ _ _ _ c.deref.ensures.value refl c.reduce-rank.ensures.reduced)
 
 pub basis_for-requires-clause-rising : goal.basis_for-requires-clause-rising
-basis_for-requires-clause-rising c = rising_at (pivots_seen c.reduce-rank.result _ _ _ _ _ c.deref.ensures.value refl c.reduce-rank.ensures.reduced)
+basis_for-requires-clause-rising g c = rising_at (pivots_seen c.reduce-rank.result _ _ _ _ _ c.deref.ensures.value refl c.reduce-rank.ensures.reduced)
 
 pub basis_for-requires-clause-in_rows : goal.basis_for-requires-clause-in_rows
-basis_for-requires-clause-in_rows c = rows_at (pivots_seen c.reduce-rank.result _ _ _ _ _ c.deref.ensures.value refl c.reduce-rank.ensures.reduced)
+basis_for-requires-clause-in_rows g c = rows_at (pivots_seen c.reduce-rank.result _ _ _ _ _ c.deref.ensures.value refl c.reduce-rank.ensures.reduced)
 
 pub basis_for-requires-clause-in_cols : goal.basis_for-requires-clause-in_cols
-basis_for-requires-clause-in_cols c = columns_at (pivots_seen c.reduce-rank.result _ _ _ _ _ c.deref.ensures.value refl c.reduce-rank.ensures.reduced)
+basis_for-requires-clause-in_cols g c = columns_at (pivots_seen c.reduce-rank.result _ _ _ _ _ c.deref.ensures.value refl c.reduce-rank.ensures.reduced)
 
-pub returns : goal.returns
-returns c =
+pub returns-clause-kernel : goal.returns-clause-kernel
+returns-clause-kernel g c =
     let A = shown c.args.a.now in
     let R = c.reduce-rank.new.a in
     let q = take c.reduce-rank.result c.deref.result.now in

@@ -6,7 +6,7 @@ use Rattle.m4_model.proofs.FormLemmas.{pivots_of_reduced}
 use Rattle.m4_solve.proofs.forms.echelon.Goals as goal
 
 pub returns-clause-rank : goal.returns-clause-rank
-returns-clause-rank c =
+returns-clause-rank g c =
     let A = c.args.a.now in
     let reduced = c.reduce.ensures.reduced in
     let r = c.reduce.result in

@@ -16,25 +16,25 @@ kept_form : (A W : Matrix) (p q : List ℕ) (held : HoldsPle A p q W) → HasSha
 kept_form A W p q held shape = echelon_held q held.l held.e W held.factors.e_shape held.factors.e_form.rising shape held.stored
 
 pub sweep-requires : goal.sweep-requires
-sweep-requires c =
+sweep-requires g c =
     let A = content c.args.a.now in
-    let W = content c.ple_plain-rank.new.a in
-    let q = take c.ple_plain-rank.result c.ple_plain-rank.new.q in
-    let held = c.ple_plain-rank.ensures.factors in
+    let W = content c.ple-rank.new.a in
+    let q = take c.ple-rank.result c.ple-rank.new.q in
+    let held = c.ple-rank.ensures.factors in
     let own = c.cols-cols.ensures.shape.matrix in
     let shape : HasShape gf2 A.rows A.cols W
-    = record { is_matrix = own; over = refl; rows = ap (λ (V : Window). V.rows) c.ple_plain-rank.ensures.kept; cols = ap (λ (V : Window). V.cols) c.ple_plain-rank.ensures.kept } in
+    = record { is_matrix = own; over = refl; rows = ap (λ (V : Window). V.rows) c.ple-rank.ensures.kept; cols = ap (λ (V : Window). V.cols) c.ple-rank.ensures.kept } in
     record { echelon = subst (λ (M : Matrix). Echelon M q) (kept_form A W _ q held shape ∙ sym (ap content c.keep_echelon.ensures.echelon)) held.factors.e_form }
 
 pub returns-clause-reduced : goal.returns-clause-reduced
-returns-clause-reduced c =
+returns-clause-reduced g c =
     let A = content c.args.a.now in
-    let W = content c.ple_plain-rank.new.a in
+    let W = content c.ple-rank.new.a in
     let R = content c.sweep.new.a in
-    let q = take c.ple_plain-rank.result c.ple_plain-rank.new.q in
-    let held = c.ple_plain-rank.ensures.factors in
-    let rows : c.ple_plain-rank.new.a.rows ≡ A.rows = ap (λ (V : Window). V.rows) c.ple_plain-rank.ensures.kept in
-    let cols : c.ple_plain-rank.new.a.cols ≡ A.cols = ap (λ (V : Window). V.cols) c.ple_plain-rank.ensures.kept in
+    let q = take c.ple-rank.result c.ple-rank.new.q in
+    let held = c.ple-rank.ensures.factors in
+    let rows : c.ple-rank.new.a.rows ≡ A.rows = ap (λ (V : Window). V.rows) c.ple-rank.ensures.kept in
+    let cols : c.ple-rank.new.a.cols ≡ A.cols = ap (λ (V : Window). V.cols) c.ple-rank.ensures.kept in
     let shape : HasShape gf2 A.rows A.cols W = record { is_matrix = c.cols-cols.ensures.shape.matrix; over = refl; rows = rows; cols = cols } in
     let same_rows : c.keep_echelon.new.a.rows ≡ A.rows = ap (λ (V : Window). V.rows) c.keep_echelon.ensures.echelon ∙ rows in
     let same_cols : c.keep_echelon.new.a.cols ≡ A.cols = ap (λ (V : Window). V.cols) c.keep_echelon.ensures.echelon ∙ cols in

@@ -9,22 +9,22 @@ use Rattle.m4_solve.proofs.Solutions.{pivots_seen, rising_at, rank_at, singular_
 use Rattle.m4_solve.proofs.systems.invert.Goals as goal
 
 pub are_first-requires-clause-rising : goal.are_first-requires-clause-rising
-are_first-requires-clause-rising c =
+are_first-requires-clause-rising g c =
     rising_at (pivots_seen c.reduce-rank.result _ _ _ _ _ c.deref.ensures.value refl c.reduce-rank.ensures.reduced)
 
 pub are_first-requires-clause-few : goal.are_first-requires-clause-few
-are_first-requires-clause-few c =
+are_first-requires-clause-few g c =
     let few = rank_at (pivots_seen c.reduce-rank.result _ _ _ _ _ c.deref.ensures.value c.in_ok-both.ensures c.reduce-rank.ensures.reduced) in
     let width = c.cols-n.ensures.cols in
     let square = c.requires.square in
     omega (arith, few, width, square)
 
 pub read_off-requires-clause-rising : goal.read_off-requires-clause-rising
-read_off-requires-clause-rising c =
+read_off-requires-clause-rising g c =
     rising_at (pivots_seen c.reduce-rank.result _ _ _ _ _ c.deref.ensures.value refl c.reduce-rank.ensures.reduced)
 
 pub read_off-requires-clause-below : goal.read_off-requires-clause-below
-read_off-requires-clause-below c s inside =
+read_off-requires-clause-below g c s inside =
     let few = rank_at (pivots_seen c.reduce-rank.result _ _ _ _ _ c.deref.ensures.value c.in_ok-both.ensures c.reduce-rank.ensures.reduced) in
     let width = c.cols-n.ensures.cols in
     let square = c.requires.square in
@@ -35,8 +35,8 @@ read_off-requires-clause-below c s inside =
 made_beside : (A one both : Matrix) (n : ℕ) → both ≡ beside A one → one ≡ identity gf2 n → n ≡ A.rows → both ≡ beside A (identity gf2 A.rows)
 made_beside A one both n made is_one same = made ∙ ap (beside A) (is_one ∙ ap (identity gf2) same)
 
-pub returns-then-not-are_first : goal.returns-then-not-are_first
-returns-then-not-are_first c =
+pub returns-then-not-are_first-clause-inverse : goal.returns-then-not-are_first-clause-inverse
+returns-then-not-are_first-clause-inverse g c =
     let A = shown c.args.a.now in
     let both = made_beside A _ _ c.cols-n.result c.in_ok-both.ensures (c.all.ensures ∙ c.in_ok-one.ensures) (c.cols-n.ensures.cols ∙ c.requires.square) in
     let reduced = pivots_seen c.reduce-rank.result _ _ _ _ _ c.deref.ensures.value both c.reduce-rank.ensures.reduced in
@@ -45,8 +45,8 @@ returns-then-not-are_first c =
     let low = missing.1 in
     singular_at A _ _ gf2_laws c.cols-n.ensures.matrix refl c.requires.square reduced missing.0 (omega (arith, low, width)) missing.2
 
-pub returns : goal.returns
-returns c =
+pub returns-clause-inverse : goal.returns-clause-inverse
+returns-clause-inverse g c =
     let A = shown c.args.a.now in
     let both = made_beside A _ _ c.cols-n.result c.in_ok-both.ensures (c.all.ensures ∙ c.in_ok-one.ensures) (c.cols-n.ensures.cols ∙ c.requires.square) in
     let reduced = pivots_seen c.reduce-rank.result _ _ _ _ _ c.deref.ensures.value both c.reduce-rank.ensures.reduced in

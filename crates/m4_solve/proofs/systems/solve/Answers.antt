@@ -10,15 +10,15 @@ use Rattle.m4_solve.proofs.Solutions.{pivots_seen, rising_at, no_solution_at, so
 use Rattle.m4_solve.proofs.systems.solve.Goals as goal
 
 pub all_below-requires : goal.all_below-requires
-all_below-requires c =
+all_below-requires g c =
     rising_at (pivots_seen c.reduce-rank.result _ _ _ _ _ c.deref.ensures.value c.in_ok-both.ensures c.reduce-rank.ensures.reduced)
 
 pub read_off-requires-clause-rising : goal.read_off-requires-clause-rising
-read_off-requires-clause-rising c =
+read_off-requires-clause-rising g c =
     rising_at (pivots_seen c.reduce-rank.result _ _ _ _ _ c.deref.ensures.value c.in_ok-both.ensures c.reduce-rank.ensures.reduced)
 
-pub returns-then-not-all_below : goal.returns-then-not-all_below
-returns-then-not-all_below c =
+pub returns-then-not-all_below-clause-solution : goal.returns-then-not-all_below-clause-solution
+returns-then-not-all_below-clause-solution g c =
     let A = shown c.args.a.now in
     let B = shown c.args.b.now in
     let reduced = pivots_seen c.reduce-rank.result _ _ _ _ _ c.deref.ensures.value c.in_ok-both.ensures c.reduce-rank.ensures.reduced in
@@ -28,8 +28,8 @@ returns-then-not-all_below c =
     let width = c.cols-2.ensures.cols in
     no_solution_at A B _ _ gf2_laws c.rows-rows.ensures.matrix shape refl reduced past.0 past.1 (omega (arith, large, width))
 
-pub returns : goal.returns
-returns c =
+pub returns-clause-solution : goal.returns-clause-solution
+returns-clause-solution g c =
     let A = shown c.args.a.now in
     let B = shown c.args.b.now in
     let reduced = pivots_seen c.reduce-rank.result _ _ _ _ _ c.deref.ensures.value c.in_ok-both.ensures c.reduce-rank.ensures.reduced in

@@ -17,7 +17,7 @@ front_back : (r n : ℕ) (q rest : List ℕ) → r ≤ length q → length q ≡
 front_back r n q rest within fits = take_front r n (q ++ rest) (omega (arith, within, fits)) ∙ take-append-le r q rest within
 
 pub returns-clause-reduced : goal.returns-clause-reduced
-returns-clause-reduced c =
+returns-clause-reduced g c =
     let q = c.reduce-rank.new.q in
     let now : c.put_all-2.new.self ≡ content c.reduce-rank.new.a = c.put_all-2.ensures in
     let rows = ap (λ (V : Window). V.rows) c.reduce-rank.ensures.kept in
