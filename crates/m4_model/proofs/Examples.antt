@@ -3,6 +3,7 @@ use Rattle.std.proofs.Common.{◌≡◌, ℕ, List, [], ◌∷◌, refl, codes, 
 use Rattle.std.specs.Fmt.{digits}
 use Rattle.m4_model.specs.Field.{gf2, IsExtension, clmul, mul, sum_below, bits_within, rem_within}
 use Rattle.m4_model.specs.Matrix.{Matrix, table, product}
+use Rattle.m4_model.specs.Additions.{additions}
 use Rattle.m4_model.specs.Shapes.{transposed, above, beside, cut, replace, swaps, exchanged}
 use Rattle.m4_model.specs.Text.{text}
 
@@ -72,3 +73,16 @@ a_part_replaced = refl
 exchanges : swaps 3 (2 ∷ 2 ∷ 2 ∷ []) ≡ 2 ∷ 0 ∷ 1 ∷ []
 unfolding exchanged
 exchanges = refl
+
+-- row additions: a table of 8 rows takes 255 to fill, and one for each row of the product; without a column there are none
+many_additions : additions 1000 1000 8 ≡ 156875
+many_additions = refl
+
+additions_for_one_row : additions 1 64 8 ≡ 2048
+additions_for_one_row = refl
+
+no_addition : additions 1 0 8 ≡ 0
+no_addition = refl
+
+additions_with_a_column_left_over : additions 3 5 2 ≡ 16
+additions_with_a_column_left_over = refl

@@ -11,3 +11,4 @@ pub mod Jcf
 pub mod Texts
 pub mod Words
 pub mod Outcome
+pub mod Additions

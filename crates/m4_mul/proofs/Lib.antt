@@ -1,1 +1,5 @@
 pub mod PlainLemmas
+pub mod AddedLemmas
+pub mod AdditionsLemmas
+pub mod GroupLemmas
+pub mod PartLemmas

@@ -1,15 +1,15 @@
 -- A row of a product over GF(2), term by term, and the rows of a product, added one by one.
-use Rattle.std.proofs.Common.{◌≡◌, ℕ, ◌+◌, ◌<◌, ◌≤◌, inl, inr, cond, ltb, lit<, List, [], ◌∷◌, length, get_or, map, refl, sym, ◌∙◌, ap, ap₂, arith, bit_xor}
+use Rattle.std.proofs.Common.{◌≡◌, ℕ, ◌+◌, ◌<◌, ◌≤◌, lit<, List, [], ◌∷◌, length, get_or, map, refl, sym, ◌∙◌, ap, ap₂, arith, bit_xor}
 use Rattle.std.specs.List.{range_with_len}
 use Rattle.std.specs.Int.Bits.{xor_assoc, xor_zero_r}
 use Rattle.std.proofs.lemmas.List.FromFn.{length-map-range_with_len, get_or-map-range_with_len}
 use Rattle.std.proofs.lemmas.List.{ext_get_or, get_or-set_same, set-set, set-get_or}
-use Rattle.std.proofs.lemmas.Bool.{cases_lt, lt-ltb, le-ltb, cond-true, cond-false}
 use Rattle.m4_model.specs.Field.{gf2, sum_below, mul}
 use Rattle.m4_model.specs.Matrix.{Matrix, IsMatrix, row, at, matrix_of, product, added, with_row, row_sum}
 use Rattle.m4_model.proofs.FieldLemmas.{mul_gf2, sum_below-more}
 use Rattle.m4_model.proofs.MatrixLemmas.{row-table, length-table, length-row-table, at-table, same_matrix}
-use Rattle.m4_mzd.proofs.RowLemmas.{with_row-matrix_of, length-row_sum, get_or-row_sum}
+use Rattle.m4_bits.proofs.BitsLemmas.{length-row_sum, get_or-row_sum}
+use Rattle.m4_mul.proofs.AddedLemmas.{added_rows, length-added_row, at-added_row, added_rows-more, added_rows-all}
 
 -- the sum of the first t terms of entry (i, j) of the product
 abbrev pub terms : Matrix → Matrix → ℕ → ℕ → ℕ → ℕ
@@ -117,48 +117,34 @@ pub with_terms-all : (C A B : Matrix) (i t : ℕ) → i < A.rows → t ≡ A.col
 with_terms-all C A B i t in_rows end =
     ap (λ (xs : List ℕ). with_row C i (row_sum (row C i) xs)) (ap (row_terms A B i) end ∙ row_terms-all A B i in_rows)
 
--- c with the first i rows of the product added to its own
-abbrev pub added_rows : Matrix → Matrix → Matrix → ℕ → Matrix
-added_rows C A B i = matrix_of gf2 C.rows C.cols (λ r j. cond (ltb r i) (bit_xor (at C r j) (terms A B r A.cols j)) (at C r j))
-
--- no row is added
-pub added_rows-none : (C A B : Matrix) → C.field ≡ gf2 → IsMatrix C → C ≡ added_rows C A B 0
-added_rows-none C A B field matrix =
-    same_matrix gf2 C.rows C.cols (λ r j. cond (ltb r 0) (bit_xor (at C r j) (terms A B r A.cols j)) (at C r j)) C field refl refl
-    matrix.height matrix.width
-    (λ r j below within. sym (cond-false (ltb r 0) (bit_xor (at C r j) (terms A B r A.cols j)) (at C r j) (le-ltb r 0 (omega arith))))
+-- ---- what is added to each row of c
+abbrev pub all_terms : Matrix → Matrix → ℕ → ℕ → ℕ
+all_terms A B r j = terms A B r A.cols j
 
 -- one row more is added
-pub added_rows-more : (C A B : Matrix) (i : ℕ) → i < C.rows → A.rows ≡ C.rows → B.cols ≡ C.cols
-    → with_row (added_rows C A B i) i (row_sum (row (added_rows C A B i) i) (row (product A B) i)) ≡ added_rows C A B (i + 1)
-added_rows-more C A B i in_rows rows cols =
-    let before = λ (r j : ℕ). cond (ltb r i) (bit_xor (at C r j) (terms A B r A.cols j)) (at C r j) in
-    let after = λ (r j : ℕ). cond (ltb r (i + 1)) (bit_xor (at C r j) (terms A B r A.cols j)) (at C r j) in
-    let whole = λ (r j : ℕ). terms A B r A.cols j in
-    let mine = row (added_rows C A B i) i in
+pub product_rows-more : (C A B : Matrix) (i : ℕ) → i < C.rows → A.rows ≡ C.rows → B.cols ≡ C.cols
+    → with_row (added_rows C (all_terms A B) i) i (row_sum (row (added_rows C (all_terms A B) i) i) (row (product A B) i))
+    ≡ added_rows C (all_terms A B) (i + 1)
+product_rows-more C A B i in_rows rows cols =
+    let h = all_terms A B in
+    let mine = row (added_rows C h i) i in
     let more = row (product A B) i in
-    let below2 : i < A.rows = omega (arith, rows, in_rows) in
-    let width : length mine ≡ C.cols = length-row-table C.rows C.cols before i in_rows in
-    let width2 : length more ≡ C.cols = length-row-table A.rows B.cols whole i below2 ∙ cols in
-    sym (with_row-matrix_of gf2 C.rows C.cols before after i (row_sum mine more) in_rows (length-row_sum mine more ∙ width)
+    let below : i < A.rows = omega (arith, rows, in_rows) in
+    let width : length mine ≡ C.cols = length-added_row C h i in_rows in
+    let width2 : length more ≡ C.cols = length-row-table A.rows B.cols h i below ∙ cols in
+    added_rows-more C h i (row_sum mine more) in_rows (length-row_sum mine more ∙ width)
     (λ j within.
     get_or-row_sum mine more j (width ∙ sym width2)
-    ∙ (rw (at-table C.rows C.cols before i j in_rows within, at-table A.rows B.cols whole i j below2 (rw cols within), le-ltb i i (omega arith), lt-ltb i (i + 1) (omega arith))
-    refl))
-    (λ r j below within away. elim (cases_lt r i) [
-      | inl early ↦ rw (lt-ltb r i early, lt-ltb r (i + 1) (omega arith)) refl
-      | inr late ↦ rw (le-ltb r i late, le-ltb r (i + 1) (omega (arith, away))) refl
-    ]))
+    ∙ (λ n. bit_xor (at-added_row C h i j in_rows within n) (at-table A.rows B.cols h i j below (rw cols within) n)))
 
 -- with every row, the product is added
-pub added_rows-all : (C A B : Matrix) (i : ℕ) → C.field ≡ gf2 → A.rows ≡ C.rows → B.cols ≡ C.cols → C.rows ≤ i
-    → added_rows C A B i ≡ added C (product A B)
-added_rows-all C A B i field rows cols end =
-    let done = λ (r j : ℕ). cond (ltb r i) (bit_xor (at C r j) (terms A B r A.cols j)) (at C r j) in
-    let whole = λ (r j : ℕ). terms A B r A.cols j in
-    same_matrix C.field C.rows C.cols (λ r j. bit_xor (at C r j) (at (product A B) r j)) (added_rows C A B i) (sym field) refl refl
-    (length-table C.rows C.cols done) (length-row-table C.rows C.cols done)
+pub product_rows-all : (C A B : Matrix) (i : ℕ) → C.field ≡ gf2 → A.rows ≡ C.rows → B.cols ≡ C.cols → C.rows ≤ i
+    → added_rows C (all_terms A B) i ≡ added C (product A B)
+product_rows-all C A B i field rows cols end =
+    let h = all_terms A B in
+    added_rows-all C h i end
+    ∙ same_matrix C.field C.rows C.cols (λ r j. bit_xor (at C r j) (at (product A B) r j)) (matrix_of gf2 C.rows C.cols (λ r j. bit_xor (at C r j) (h r j))) (sym field) refl refl
+    (length-table C.rows C.cols (λ r j. bit_xor (at C r j) (h r j))) (length-row-table C.rows C.cols (λ r j. bit_xor (at C r j) (h r j)))
     (λ r j below within.
-    at-table C.rows C.cols done r j below within
-    ∙ (cond-true (ltb r i) (bit_xor (at C r j) (terms A B r A.cols j)) (at C r j) (lt-ltb r i (omega arith))
-    ∙ ap (bit_xor (at C r j)) (sym (at-table A.rows B.cols whole r j (rw rows below) (rw cols within)))))
+    at-table C.rows C.cols (λ r j. bit_xor (at C r j) (h r j)) r j below within
+    ∙ ap (bit_xor (at C r j)) (sym (at-table A.rows B.cols h r j (rw rows below) (rw cols within))))

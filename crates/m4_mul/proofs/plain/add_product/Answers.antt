@@ -2,13 +2,14 @@ use Rattle.std.proofs.Common.{◌∙◌, refl, ap, arith}
 use Rattle.m4_model.specs.Matrix.{product, row, row_sum, with_row}
 use Rattle.m4_mzd.specs.Window.{Window, content, showing}
 use Rattle.m4_mzd.specs.Seen.{shown}
-use Rattle.m4_mul.proofs.PlainLemmas.{added_rows-none, added_rows-more, added_rows-all}
+use Rattle.m4_mul.proofs.AddedLemmas.{added_rows-none}
+use Rattle.m4_mul.proofs.PlainLemmas.{all_terms, product_rows-more, product_rows-all}
 use Rattle.m4_mul.proofs.plain.add_product.Goals as goal
 
 pub loop-i-init : goal.loop-i-init
 loop-i-init g c =
     let W = c.args.c.now in
-    ap (showing W) (added_rows-none (content W) (shown c.args.a.now) (shown c.args.b.now) refl c.rows-i-end.ensures.shape.matrix)
+    ap (showing W) (added_rows-none (content W) (all_terms (shown c.args.a.now) (shown c.args.b.now)) refl c.rows-i-end.ensures.shape.matrix)
 
 pub loop-i-preserved : goal.loop-i-preserved
 loop-i-preserved g c =
@@ -18,10 +19,10 @@ loop-i-preserved g c =
     let i = c.loop-i.i in
     c.add_row_of_product.ensures
     ∙ (ap (λ (L : Window). showing L (with_row (content L) i (row_sum (row (content L) i) (row (product A B) i)))) c.loop-i.invariant
-    ∙ ap (showing W) (added_rows-more (content W) A B i (omega arith) c.requires.rows c.requires.cols))
+    ∙ ap (showing W) (product_rows-more (content W) A B i (omega arith) c.requires.rows c.requires.cols))
 
 pub returns : goal.returns
 returns g c =
     c.loop-i.invariant
     ∙ ap (showing c.args.c.now)
-    (added_rows-all (content c.args.c.now) (shown c.args.a.now) (shown c.args.b.now) c.loop-i.i refl c.requires.rows c.requires.cols (omega arith))
+    (product_rows-all (content c.args.c.now) (shown c.args.a.now) (shown c.args.b.now) c.loop-i.i refl c.requires.rows c.requires.cols (omega arith))
