@@ -1,0 +1,71 @@
+//! Triangles on the left.
+
+ghost use Rattle.std.specs.Prelude.{◌≡◌, ◌≤◌};
+ghost use Rattle.m4_model.specs.Matrix.{product};
+ghost use Rattle.m4_mzd.specs.Window.{content, showing};
+ghost use Rattle.m4_mzd.specs.Seen.{shown};
+ghost use Rattle.m4_mzd.specs.Reach.{IsReached};
+ghost use Rattle.m4_trsm.specs.Triangles.{unit_lower, unit_upper};
+
+use crate::by_rows::solve_left;
+use crate::parts::{half, lower_parts, upper_parts};
+use crate::side::Side;
+use m4_mzd::{AddMul, Win, WinMut};
+
+/// `b` becomes the X with L X = b, where L is the lower triangle of `t` with ones on its diagonal.
+///
+/// `t` is square and has as many rows as `b`. Only what lies below its diagonal is read. The cutoff is at least 64.
+pub fn solve_lower_left<M: AddMul>(t: &Win, b: &mut WinMut, e: &mut M, cutoff: u32)
+    requires square { (shown t.now).rows ≡ (shown t.now).cols }
+    requires fits { (shown t.now).rows ≡ b.old.rows }
+    requires cutoff { 64 ≤ cutoff }
+    requires reached { IsReached (M.limits e.old) b.old.rows b.old.rows b.old.cols }
+    ensures solved { product (unit_lower (shown t.now)) (content b.new) ≡ content b.old }
+    ensures stays { b.new ≡ showing b.old (content b.new) }
+    ensures reach { M.limits e.new ≡ M.limits e.old }
+{
+    let rows = t.rows();
+    if rows <= cutoff {
+        solve_left(Side::Lower, t, b);
+        return;
+    }
+    let _rows = b.rows();
+    let cut = half(rows);
+    let (first, last, corner) = lower_parts(*t, cut);
+    let (mut top, mut bottom) = b.take().split_rows(cut);
+    let (_above, _below) = (top.rows(), bottom.rows());
+    solve_lower_left(&first, &mut top, e, cutoff);
+    e.addmul(&mut bottom, &corner, &top.see());
+    solve_lower_left(&last, &mut bottom, e, cutoff);
+    let (_above, _below) = (top.rows(), bottom.rows());
+    b.put_back(top.join_rows(bottom));
+}
+
+/// `b` becomes the X with U X = b, where U is the upper triangle of `t` with ones on its diagonal.
+///
+/// `t` is square and has as many rows as `b`. Only what lies above its diagonal is read. The cutoff is at least 64.
+pub fn solve_upper_left<M: AddMul>(t: &Win, b: &mut WinMut, e: &mut M, cutoff: u32)
+    requires square { (shown t.now).rows ≡ (shown t.now).cols }
+    requires fits { (shown t.now).rows ≡ b.old.rows }
+    requires cutoff { 64 ≤ cutoff }
+    requires reached { IsReached (M.limits e.old) b.old.rows b.old.rows b.old.cols }
+    ensures solved { product (unit_upper (shown t.now)) (content b.new) ≡ content b.old }
+    ensures stays { b.new ≡ showing b.old (content b.new) }
+    ensures reach { M.limits e.new ≡ M.limits e.old }
+{
+    let rows = t.rows();
+    if rows <= cutoff {
+        solve_left(Side::Upper, t, b);
+        return;
+    }
+    let _rows = b.rows();
+    let cut = half(rows);
+    let (first, last, corner) = upper_parts(*t, cut);
+    let (mut top, mut bottom) = b.take().split_rows(cut);
+    let (_above, _below) = (top.rows(), bottom.rows());
+    solve_upper_left(&last, &mut bottom, e, cutoff);
+    e.addmul(&mut top, &corner, &bottom.see());
+    solve_upper_left(&first, &mut top, e, cutoff);
+    let (_above, _below) = (top.rows(), bottom.rows());
+    b.put_back(top.join_rows(bottom));
+}

@@ -1,0 +1,71 @@
+//! Triangles on the right.
+
+ghost use Rattle.std.specs.Prelude.{◌≡◌, ◌≤◌};
+ghost use Rattle.m4_model.specs.Matrix.{product};
+ghost use Rattle.m4_mzd.specs.Window.{content, showing};
+ghost use Rattle.m4_mzd.specs.Seen.{shown};
+ghost use Rattle.m4_mzd.specs.Reach.{IsReached};
+ghost use Rattle.m4_trsm.specs.Triangles.{unit_lower, unit_upper};
+
+use crate::by_rows::solve_right;
+use crate::parts::{half, lower_parts, upper_parts};
+use crate::side::Side;
+use m4_mzd::{AddMul, Win, WinMut};
+
+/// `b` becomes the X with X L = b, where L is the lower triangle of `t` with ones on its diagonal.
+///
+/// `t` is square and has as many columns as `b`. Only what lies below its diagonal is read. The cutoff is at least 64.
+pub fn solve_lower_right<M: AddMul>(t: &Win, b: &mut WinMut, e: &mut M, cutoff: u32)
+    requires square { (shown t.now).rows ≡ (shown t.now).cols }
+    requires fits { (shown t.now).cols ≡ b.old.cols }
+    requires cutoff { 64 ≤ cutoff }
+    requires reached { IsReached (M.limits e.old) b.old.rows b.old.cols b.old.cols }
+    ensures solved { product (content b.new) (unit_lower (shown t.now)) ≡ content b.old }
+    ensures stays { b.new ≡ showing b.old (content b.new) }
+    ensures reach { M.limits e.new ≡ M.limits e.old }
+{
+    let cols = t.cols();
+    if cols <= cutoff {
+        solve_right(Side::Lower, t, b);
+        return;
+    }
+    let _cols = b.cols();
+    let cut = half(cols);
+    let (first, last, corner) = lower_parts(*t, cut);
+    let (mut left, mut right) = b.take().split_cols(cut);
+    let (_before, _behind) = (left.cols(), right.cols());
+    solve_lower_right(&last, &mut right, e, cutoff);
+    e.addmul(&mut left, &right.see(), &corner);
+    solve_lower_right(&first, &mut left, e, cutoff);
+    let (_before, _behind) = (left.cols(), right.cols());
+    b.put_back(left.join_cols(right));
+}
+
+/// `b` becomes the X with X U = b, where U is the upper triangle of `t` with ones on its diagonal.
+///
+/// `t` is square and has as many columns as `b`. Only what lies above its diagonal is read. The cutoff is at least 64.
+pub fn solve_upper_right<M: AddMul>(t: &Win, b: &mut WinMut, e: &mut M, cutoff: u32)
+    requires square { (shown t.now).rows ≡ (shown t.now).cols }
+    requires fits { (shown t.now).cols ≡ b.old.cols }
+    requires cutoff { 64 ≤ cutoff }
+    requires reached { IsReached (M.limits e.old) b.old.rows b.old.cols b.old.cols }
+    ensures solved { product (content b.new) (unit_upper (shown t.now)) ≡ content b.old }
+    ensures stays { b.new ≡ showing b.old (content b.new) }
+    ensures reach { M.limits e.new ≡ M.limits e.old }
+{
+    let cols = t.cols();
+    if cols <= cutoff {
+        solve_right(Side::Upper, t, b);
+        return;
+    }
+    let _cols = b.cols();
+    let cut = half(cols);
+    let (first, last, corner) = upper_parts(*t, cut);
+    let (mut left, mut right) = b.take().split_cols(cut);
+    let (_before, _behind) = (left.cols(), right.cols());
+    solve_upper_right(&first, &mut left, e, cutoff);
+    e.addmul(&mut right, &left.see(), &corner);
+    solve_upper_right(&last, &mut right, e, cutoff);
+    let (_before, _behind) = (left.cols(), right.cols());
+    b.put_back(left.join_cols(right));
+}
