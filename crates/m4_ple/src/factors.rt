@@ -28,6 +28,8 @@ pub fn ple_factors(alloc: Global, a: &Win, pivots: &[u32]) -> Result<Factors, No
     requires rising { IsRising pivots.now }
     requires in_cols { (k : ℕ) → k < length pivots.now → slice_index pivots.now k < (shown a.now).cols }
     requires in_rows { length pivots.now ≤ (shown a.now).rows }
+    ensures l_size { IfOk result (λ f. (f.l.rows ≡ (shown a.now).rows) × (f.l.cols ≡ (shown a.now).rows)) }
+    ensures e_size { IfOk result (λ f. (f.e.rows ≡ (shown a.now).rows) × (f.e.cols ≡ (shown a.now).cols)) }
     ensures l { IfOk result (λ f. (L E : Matrix) → HasShape gf2 (shown a.now).rows (shown a.now).rows L
         → HasShape gf2 (shown a.now).rows (shown a.now).cols E → Stored (shown a.now) pivots.now L E → f.l ≡ L) }
     ensures e { IfOk result (λ f. (L E : Matrix) → HasShape gf2 (shown a.now).rows (shown a.now).rows L
@@ -43,6 +45,8 @@ pub fn ple_factors(alloc: Global, a: &Win, pivots: &[u32]) -> Result<Factors, No
 pub fn pluq_factors(alloc: Global, a: &Win, r: u32) -> Result<Factors, NoMemory>
     requires in_rows { r ≤ (shown a.now).rows }
     requires in_cols { r ≤ (shown a.now).cols }
+    ensures l_size { IfOk result (λ f. (f.l.rows ≡ (shown a.now).rows) × (f.l.cols ≡ (shown a.now).rows)) }
+    ensures u_size { IfOk result (λ f. (f.e.rows ≡ (shown a.now).rows) × (f.e.cols ≡ (shown a.now).cols)) }
     ensures l { IfOk result (λ f. (L U : Matrix) → HasShape gf2 (shown a.now).rows (shown a.now).rows L
         → HasShape gf2 (shown a.now).rows (shown a.now).cols U → StoredPluq (shown a.now) r L U → f.l ≡ L) }
     ensures u { IfOk result (λ f. (L U : Matrix) → HasShape gf2 (shown a.now).rows (shown a.now).rows L

@@ -6,6 +6,8 @@ mod echelon;
 mod factors;
 mod in_place;
 mod plain;
+#[cfg(test)]
+mod tests;
 
 pub use echelon::keep_echelon;
 pub use factors::{Factors, ple_factors, pluq_factors};

@@ -1,3 +1,5 @@
+use Rattle.std.proofs.Common.{ap}
+use Rattle.m4_model.specs.Matrix.{Matrix}
 use Rattle.std.proofs.Common.{refl, sym, ◌∙◌, arith, length}
 use Rattle.m4_model.proofs.ShapeLemmas.{HasShape-own}
 use Rattle.m4_model.proofs.ExchangeLemmas.{rising_room}
@@ -17,3 +19,9 @@ pub returns-clause-e : goal.returns-clause-e
 returns-clause-e c L E l e held =
     let A = shown c.args.a.now in
     c.in_ok-e.ensures ∙ sym (echelon_held c.args.pivots.now L E A e c.requires.rising (HasShape-own A c.cols-cols.ensures.matrix) held)
+
+pub returns-clause-l_size : goal.returns-clause-l_size
+returns-clause-l_size c = (ap (λ (M : Matrix). M.rows) c.in_ok-l.ensures, ap (λ (M : Matrix). M.cols) c.in_ok-l.ensures)
+
+pub returns-clause-e_size : goal.returns-clause-e_size
+returns-clause-e_size c = (ap (λ (M : Matrix). M.rows) c.in_ok-e.ensures, ap (λ (M : Matrix). M.cols) c.in_ok-e.ensures)

@@ -1,3 +1,5 @@
+use Rattle.std.proofs.Common.{ap}
+use Rattle.m4_model.specs.Matrix.{Matrix}
 use Rattle.std.proofs.Common.{refl, ◌∙◌}
 use Rattle.m4_mzd.specs.Seen.{shown}
 use Rattle.m4_ple.proofs.FactorParts.{lower_stored_pluq, upper_stored}
@@ -8,3 +10,9 @@ returns-clause-l c L U l u held = c.in_ok-l.ensures ∙ lower_stored_pluq (shown
 
 pub returns-clause-u : goal.returns-clause-u
 returns-clause-u c L U l u held = c.in_ok-e.ensures ∙ upper_stored c.args.r L U (shown c.args.a.now) u refl refl refl held
+
+pub returns-clause-l_size : goal.returns-clause-l_size
+returns-clause-l_size c = (ap (λ (M : Matrix). M.rows) c.in_ok-l.ensures, ap (λ (M : Matrix). M.cols) c.in_ok-l.ensures)
+
+pub returns-clause-u_size : goal.returns-clause-u_size
+returns-clause-u_size c = (ap (λ (M : Matrix). M.rows) c.in_ok-e.ensures, ap (λ (M : Matrix). M.cols) c.in_ok-e.ensures)
