@@ -205,6 +205,7 @@ module _ {m n : ℕ} (W : Matrix) {L : Matrix} (l : HasShape gf2 m m L) where
   lower_stored {E} q e rising columns held =
       let room = rising_room q n rising columns in
       lower_form W l (length q) held.l_form (λ i j below under left. sym (at-stored_lower e q L W held i j below (omega (arith, left, room)) under left))
+
   -- and of a PLUQ
   pub lower_stored_pluq : {U : Matrix} (r : ℕ) → HasShape gf2 m n U → r ≤ n → StoredPluq W r L U → lower_part gf2 m r W ≡ L
   lower_stored_pluq {U} r u room held =

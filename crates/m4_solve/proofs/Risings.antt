@@ -11,20 +11,31 @@ first_missing zero q rising = inl (omega arith, λ s below. absurd (omega (arith
 first_missing (suc k) q rising = ⊎_elim
     (λ (so_far : (k ≤ length q) × ((s : ℕ) → s < k → slice_index q s ≡ s)). ⊎_elim
     (λ (inside : k < length q). ⊎_elim
-    (λ (here : slice_index q k ≡ k). inl (let e : suc k ≤ length q = omega (arith, inside) in e, λ s below. ⊎_elim
-    (λ (earlier : s < k). so_far.1 s earlier)
-    (λ (last : k ≤ s). let same : s ≡ k = omega (arith, below, last) in rw same here)
-    (cases_lt s k)))
-    (λ (away : slice_index q k ≢ k). inr (k, let e : k < suc k = omega arith in e, λ s within same.
-    ⊎_elim
-    (λ (at_k : s ≡ k). away (rw at_k at same))
-    (⊎_elim
-    (λ (earlier : s < k). let own = so_far.1 s earlier in absurd (omega (arith, own, same, earlier)))
-    (λ (later : k < s). let rises = rising k s later within in let least = rising-at_least q k rising inside in absurd (omega (arith, rises, least, same))))
-    (cases_order s k)))
+    (λ (here : slice_index q k ≡ k). inl (
+      let e : suc k ≤ length q = omega (arith, inside) in e,
+      λ s below. ⊎_elim
+          (λ (earlier : s < k). so_far.1 s earlier)
+          (λ (last : k ≤ s). let same : s ≡ k = omega (arith, below, last) in rw same here)
+          (cases_lt s k),
+    ))
+    (λ (away : slice_index q k ≢ k). inr (
+      k,
+      let e : k < suc k = omega arith in e,
+      λ s within same.
+          ⊎_elim
+          (λ (at_k : s ≡ k). away (rw at_k at same))
+          (⊎_elim
+          (λ (earlier : s < k). let own = so_far.1 s earlier in absurd (omega (arith, own, same, earlier)))
+          (λ (later : k < s). let rises = rising k s later within in let least = rising-at_least q k rising inside in absurd (omega (arith, rises, least, same))))
+          (cases_order s k),
+    ))
     (cases_eq (slice_index q k) k))
-    (λ (short : length q ≤ k). inr (k, let e : k < suc k = omega arith in e, λ s within same.
-    let own = so_far.1 s (omega (arith, within, short)) in absurd (omega (arith, own, same, within, short))))
+    (λ (short : length q ≤ k). inr (
+      k,
+      let e : k < suc k = omega arith in e,
+      λ s within same.
+          let own = so_far.1 s (omega (arith, within, short)) in absurd (omega (arith, own, same, within, short)),
+    ))
     (cases_lt k (length q)))
     (λ (missing : (j : ℕ) × (j < k) × ((s : ℕ) → s < length q → slice_index q s ≢ j)).
     inr (missing.0, let low = missing.1 in (let e : missing.0 < suc k = omega (arith, low) in e), missing.2))

@@ -17,11 +17,7 @@ use std::alloc::Global;
 /// Makes of the matrix its reduced row echelon form, and answers its rank. Where memory is wanting, the matrix is as it was.
 ///
 /// A PLE is made in place, its echelon form is kept, and the entries above the pivots are cleared.
-pub fn echelon<M: AddMul>(
-    alloc: Global,
-    a: &mut Mzd,
-    ctx: &mut Ctx<M>,
-) -> Result<u32, NoMemory>
+pub fn echelon<M: AddMul>(alloc: Global, a: &mut Mzd, ctx: &mut Ctx<M>) -> Result<u32, NoMemory>
     requires serves { Serves (M.limits ctx.old.engine) ctx.old.tables ctx.old.cutoff a.old.rows a.old.cols }
     ensures reduced { IfOk result (λ r. IsReduced a.new a.old) }
     ensures rank { IfOk result (IsRank a.old) }

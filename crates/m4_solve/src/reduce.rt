@@ -39,14 +39,7 @@ pub(crate) fn reduce<M: AddMul>(
     ensures cutoff { ctx.new.cutoff ≡ ctx.old.cutoff }
 {
     let _rows = a.rows();
-    let rank = ple(
-        a,
-        p,
-        q,
-        &mut ctx.engine,
-        &mut ctx.tables,
-        ctx.cutoff,
-    );
+    let rank = ple(a, p, q, &mut ctx.engine, &mut ctx.tables, ctx.cutoff);
     let _cols = a.cols();
     let pivots = &q[..rank as usize];
     keep_echelon(a, pivots, spare);

@@ -22,11 +22,12 @@ loop-k-preserved c =
     let long : length B.entries ≡ length A.entries = ap (λ (V : Window). length V.bits) c.loop-k.invariant.0 ∙ length-set A.entries i xs in
     let inside = c.requires.in_rows in
     let now : row (content c.swap_entries.new.a) i ≡ ys
-    = ap (λ (V : Window). row (content V) i) c.swap_entries.ensures ∙ get_or-set_same B.entries i ys [] (omega (arith, long, height, inside)) in
-    (c.swap_entries.ensures
-     ∙ ap (λ (V : Window). showing V (with_row (content V) i ys)) c.loop-k.invariant.0
-     ∙ ap (showing W) (with_row-again A i xs ys ∙ ap (with_row A i) (sym now)),
-     ap (exchanged (k + 1) (drop (k + 1) q)) now ∙ sym (exchange_step k q xs (let e : k < length q = omega arith in e)) ∙ c.loop-k.invariant.1)
+    = ap (λ (V : Window). row (content V) i) c.swap_entries.ensures ∙ get_or-set_same B.entries i ys [] (omega (arith, long, height, inside)) in (
+      c.swap_entries.ensures
+          ∙ ap (λ (V : Window). showing V (with_row (content V) i ys)) c.loop-k.invariant.0
+          ∙ ap (showing W) (with_row-again A i xs ys ∙ ap (with_row A i) (sym now)),
+      ap (exchanged (k + 1) (drop (k + 1) q)) now ∙ sym (exchange_step k q xs (let e : k < length q = omega arith in e)) ∙ c.loop-k.invariant.1,
+    )
 
 pub returns : goal.returns
 returns c =

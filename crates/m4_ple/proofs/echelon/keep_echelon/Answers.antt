@@ -19,11 +19,12 @@ loop-i-preserved c =
     let q = c.args.pivots.now in
     let i = c.loop-i.i in
     let inside = c.loop-i-test.true in
-    let rows = c.rows-i-end.ensures.rows in
-    (c.keep_row.ensures.row
-     ∙ ap (λ (V : Window). showing V (with_row (content V) i (row (echelon_part q (content V)) i))) c.loop-i.invariant.0
-     ∙ ap (showing W) (echelon_part-more q A i c.rows-i-end.ensures.shape.matrix (omega (arith, inside, rows))),
-     c.keep_row.ensures.spare ∙ ap (λ (V : Window). showing V (content c.keep_row.new.spare)) c.loop-i.invariant.1)
+    let rows = c.rows-i-end.ensures.rows in (
+      c.keep_row.ensures.row
+          ∙ ap (λ (V : Window). showing V (with_row (content V) i (row (echelon_part q (content V)) i))) c.loop-i.invariant.0
+          ∙ ap (showing W) (echelon_part-more q A i c.rows-i-end.ensures.shape.matrix (omega (arith, inside, rows))),
+      c.keep_row.ensures.spare ∙ ap (λ (V : Window). showing V (content c.keep_row.new.spare)) c.loop-i.invariant.1,
+    )
 
 pub returns-clause-echelon : goal.returns-clause-echelon
 returns-clause-echelon c =

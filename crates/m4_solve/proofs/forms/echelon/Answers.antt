@@ -13,7 +13,8 @@ returns-clause-rank g c =
     let items = c.reduce.new.self.pivots.items in
     let front = length-take r items in
     let within = c.reduce.ensures.rank in
-    let laws : FieldLaws A.field = subst FieldLaws (sym c.rows.ensures.over_gf2) gf2_laws in
-    (take r items,
-     subst (λ (q : List ℕ). ArePivots A q) reduced.at_pivots (pivots_of_reduced A laws c.rows.ensures.matrix c.reduce.new.a reduced.form),
-     omega (arith, front, within))
+    let laws : FieldLaws A.field = subst FieldLaws (sym c.rows.ensures.over_gf2) gf2_laws in (
+      take r items,
+      subst (λ (q : List ℕ). ArePivots A q) reduced.at_pivots (pivots_of_reduced A laws c.rows.ensures.matrix c.reduce.new.a reduced.form),
+      omega (arith, front, within),
+    )

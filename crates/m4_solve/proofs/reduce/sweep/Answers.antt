@@ -25,12 +25,13 @@ loop-k-preserved c =
     let W = c.args.a.now in
     let A = content W in
     let q = c.args.pivots.now in
-    let k = c.loop-k.k in
-    (c.sweep_column.ensures
-     ∙ ap (λ (V : Window). showing V (swept k (slice_index q k) (content c.loop-k.a))) c.loop-k.invariant.0
-     ∙ ap (showing W) (sym (ap content c.sweep_column.ensures)),
-     subst (IsSwept A q (k + 1)) (sym (ap content c.sweep_column.ensures))
-     (swept_next c.loop-k.invariant.1 (HasShape-own A c.rows-rows.ensures.shape.matrix) c.loop-k-test.true))
+    let k = c.loop-k.k in (
+      c.sweep_column.ensures
+          ∙ ap (λ (V : Window). showing V (swept k (slice_index q k) (content c.loop-k.a))) c.loop-k.invariant.0
+          ∙ ap (showing W) (sym (ap content c.sweep_column.ensures)),
+      subst (IsSwept A q (k + 1)) (sym (ap content c.sweep_column.ensures))
+          (swept_next c.loop-k.invariant.1 (HasShape-own A c.rows-rows.ensures.shape.matrix) c.loop-k-test.true),
+    )
 
 pub returns-clause-reduced : goal.returns-clause-reduced
 returns-clause-reduced c = swept_all c.loop-k.invariant.1 (omega arith)

@@ -12,13 +12,15 @@ use Rattle.m4_solve.proofs.systems.copy_right_sides.Goals as goal
 pub loop-s-init : goal.loop-s-init
 loop-s-init c =
     let n = c.args.n in
-    let right = c.args.all.now.cols in
-    (refl, record {
-      height = ap (λ (M : Matrix). length M.entries) c.requires.zeros ∙ length-table n right (λ i j. 0);
-      widths = λ j below. ap (λ (M : Matrix). length (row M j)) c.requires.zeros ∙ length-row-table n right (λ i j. 0) j below;
-      at_pivot = λ s t before. absurd (omega (arith, before));
-      elsewhere = λ j t below within none. ap (λ (M : Matrix). at M j t) c.requires.zeros ∙ at-table n right (λ i j. 0) j t below within;
-    })
+    let right = c.args.all.now.cols in (
+      refl,
+      record {
+        height = ap (λ (M : Matrix). length M.entries) c.requires.zeros ∙ length-table n right (λ i j. 0);
+        widths = λ j below. ap (λ (M : Matrix). length (row M j)) c.requires.zeros ∙ length-row-table n right (λ i j. 0) j below;
+        at_pivot = λ s t before. absurd (omega (arith, before));
+        elsewhere = λ j t below within none. ap (λ (M : Matrix). at M j t) c.requires.zeros ∙ at-table n right (λ i j. 0) j t below within;
+      },
+    )
 
 pub copy_part-requires-clause-in_rows : goal.copy_part-requires-clause-in_rows
 copy_part-requires-clause-in_rows c =
@@ -48,10 +50,11 @@ loop-s-preserved c =
     let room : n + W.cols ≤ length (row R s) = omega (arith, wide, cols) in
     let next = with_row X (slice_index q s) (with_part 0 (part n c.cols-right.result (row R s)) (row X (slice_index q s))) in
     let same : next ≡ with_row X (slice_index q s) (with_part 0 (part n W.cols (row R s)) (row X (slice_index q s)))
-    = ap (λ (k : ℕ). with_row X (slice_index q s) (with_part 0 (part n k (row R s)) (row X (slice_index q s)))) c.cols-right.ensures.cols in
-    (c.copy_part.ensures ∙ ap (λ (V : Window). showing V next) c.loop-s.invariant.0 ∙ ap (showing W) (sym (ap content c.copy_part.ensures)),
-     subst (IsReadTo R q n W.cols (s + 1)) (sym (ap content c.copy_part.ensures ∙ same))
-     (read_more R q n W.cols s X c.requires.rising inside (c.requires.below s inside) room c.loop-s.invariant.1))
+    = ap (λ (k : ℕ). with_row X (slice_index q s) (with_part 0 (part n k (row R s)) (row X (slice_index q s)))) c.cols-right.ensures.cols in (
+      c.copy_part.ensures ∙ ap (λ (V : Window). showing V next) c.loop-s.invariant.0 ∙ ap (showing W) (sym (ap content c.copy_part.ensures)),
+      subst (IsReadTo R q n W.cols (s + 1)) (sym (ap content c.copy_part.ensures ∙ same))
+          (read_more R q n W.cols s X c.requires.rising inside (c.requires.below s inside) room c.loop-s.invariant.1),
+    )
 
 pub returns-clause-read : goal.returns-clause-read
 returns-clause-read c =
