@@ -1,4 +1,4 @@
-use Rattle.m4_bits.proofs.TakeLemmas.{bit_at-lowest, lowest-lt, lowest-fits}
+use Rattle.m4_bits.proofs.TakeLemmas.{bit_at-lowest, lowest-lt}
 use Rattle.m4_bits.proofs.take.lowest_bits.Goals as goal
 
 pub returns-clause-bits : goal.returns-clause-bits

@@ -1,4 +1,4 @@
-use Rattle.std.proofs.Common.{◌+◌, ◌/◌, ◌%◌, ◌<◌, ◌^◌, get_or, arith, ◌∙◌}
+use Rattle.std.proofs.Common.{arith, ◌∙◌}
 use Rattle.m4_bits.proofs.TakeLemmas.{bit_in_word, bit_across}
 use Rattle.m4_bits.proofs.take.take_bits.Goals as goal
 
