@@ -1,18 +1,19 @@
 -- From each step of a run to the next: what a file's bytes give of the file, an operand of the operands, and these of
 -- the job.
 use Rattle.std.proofs.Common.{◌≡◌, ℕ, ◌+◌, ◌^◌, List, [], ◌∷◌, ◌++◌, length, Option, refl, sym, ◌∙◌, subst, arith, inl, inr, append-nil}
+use Rattle.std.specs.Io.KnownBytes.{Appends}
 use Rattle.m4_model.specs.Matrix.{Matrix}
-use Rattle.m4_model.specs.Text.{Fault, BadAt, PastLimit}
+use Rattle.m4_model.specs.Text.{Fault, BadAt, PastLimit, IsWithinLimits}
 use Rattle.m4_model.specs.Texts.{TextForm, ReadsAs, RefusalAs}
 use Rattle.m4_model.specs.Words.{Job}
-use Rattle.m4_model.specs.Outcome.{Stock, Answer}
+use Rattle.m4_model.specs.Outcome.{Stock, Answer, status_of, can_hold_answer, text_of_answer}
 use Rattle.m4_model.specs.declared.status.Status.{Status}
 use Rattle.m4_model.specs.declared.status.Status.TheVariants.{Done, No, Words, Text, Shape, Limit, Read, Write, Memory}
-use Rattle.m4_io.specs.Outside.{Rose}
+use Rattle.m4_io.specs.Outside.{Rose, AppendsFront}
 use Rattle.m4_io.specs.Reading.{IsFileOrLong}
 use Rattle.m4_text.specs.Refused.{IsRefusalIn}
 use Rattle.m4_text.proofs.Readers.{reads_short}
-use Rattle.m4_cmd.specs.Steps.{IsReadAs, IsRefusedWith, TextFails, OperandFails, AreReadAs, OperandsFail, AnswerFails, Change, NoReadFailed, WriteGives, IsJobAnswer, JobGives, EndsUnwritten}
+use Rattle.m4_cmd.specs.Steps.{IsReadAs, IsRefusedWith, TextFails, OperandFails, AreReadAs, OperandsFail, AnswerFails, Output, Change, NoReadFailed, Wrote, WriteGives, WritesLine, IsJobAnswer, JobGives, EndsUnwritten}
 
 -- bytes that are read as a matrix are the whole file
 pub read_is_whole : (told : Option Stock) (form : TextForm) (name bytes : List ℕ) (M : Matrix) → IsFileOrLong told name (2 ^ 29) bytes → ReadsAs form bytes M → IsReadAs told form name M
@@ -124,3 +125,27 @@ ends_by_writing told asked change answer Limit kept is gives = absurd gives
 ends_by_writing told asked change answer Read kept is gives = absurd gives
 ends_by_writing told asked change answer Write kept is gives = record { kept = kept; answer = answer; is = is; wrote = gives }
 ends_by_writing told asked change answer Memory kept is gives = absurd gives
+
+-- what is read is within the limits
+pub reads_limits : (form : TextForm) (bytes : List ℕ) (M : Matrix) → ReadsAs form bytes M → IsWithinLimits M.rows M.cols
+reads_limits TextForm.Headed bytes M reads = reads.accepted.limits
+reads_limits TextForm.Bare bytes M reads = reads.accepted.limits
+reads_limits TextForm.Jcf bytes M reads = reads.accepted.limits
+
+-- an answer that was taken whole is written
+wrote_whole : (form : TextForm) (answer : Answer) (out : Output) → Wrote form answer out (status_of answer) → WriteGives form answer out (status_of answer)
+wrote_whole form (Answer.OneMatrix R) out wrote = wrote
+wrote_whole form (Answer.Lines lines) out wrote = wrote
+wrote_whole form (Answer.NoAnswer line) out wrote = wrote
+
+-- the line of an answer is its text
+pub line_written : (form : TextForm) (answer : Answer) (line : List ℕ) (out : Output) (status : Status) → can_hold_answer form answer → line ≡ text_of_answer form answer
+    → WritesLine line (status_of answer) out status → WriteGives form answer out status
+line_written form answer line out status held is writes =
+    let P : Status → Type 0 = WriteGives form answer out in
+    let Q : List ℕ → Type 0 = λ text. Appends out.taken_before out.taken_now text in
+    let R : List ℕ → Type 0 = λ text. AppendsFront out.taken_before out.taken_now text in
+    elim writes [
+      | inl whole ↦ subst P (sym whole.0) (wrote_whole form answer out (record { held = held; ends = refl; faults = whole.1; taken = subst Q is whole.2 }))
+      | inr part ↦ subst P (sym part.0) (record { held = held; faults = part.1; taken = subst R is part.2 })
+    ]

@@ -1,8 +1,12 @@
 -- The answers of the code, as the definitions see them.
-use Rattle.m4_model.specs.Outcome.{OneMatrix}
+use Rattle.std.specs.Prelude.{codes}
+use Rattle.m4_model.specs.Outcome.{OneMatrix, Lines, NoAnswer, rank_line}
 use Rattle.m4_model.specs.Outcome.{Answer as Answered}
 use Rattle.m4_cmd.specs.declared.answer.Answer.{Answer}
 use Rattle.m4_cmd.specs.declared.answer.Answer.TheVariants as answers
 
 abbrev pub answer_told : Answer → Answered
 answer_told (answers.Matrix m) = OneMatrix m
+answer_told (answers.Rank r) = Lines (rank_line r)
+answer_told answers.Singular = NoAnswer (codes "singular\n")
+answer_told answers.NoSolution = NoAnswer (codes "no solution\n")

@@ -1,6 +1,6 @@
 -- The commands and jobs of the code, as the definitions see them.
 use Rattle.std.specs.Prelude.{ℕ, List, [], ◌∷◌}
-use Rattle.m4_model.specs.Words.{Command, Mul, Addmul, Add, Transpose, Stack, Augment, Sub, Convert, Verb, MulVerb, AddmulVerb, AddVerb, TransposeVerb, StackVerb, AugmentVerb, SubVerb, ConvertVerb}
+use Rattle.m4_model.specs.Words.{Command, Mul, Addmul, Add, Transpose, Stack, Augment, Sub, Convert, Rank, Echelon, Inverse, Solve, Kernel, Verb, MulVerb, AddmulVerb, AddVerb, TransposeVerb, StackVerb, AugmentVerb, SubVerb, ConvertVerb, RankVerb, EchelonVerb, InverseVerb, SolveVerb, KernelVerb}
 use Rattle.m4_model.specs.Words.{Job as Asked}
 use Rattle.m4_cmd.specs.Options.{choices_told}
 use Rattle.m4_cmd.specs.declared.words.Task.{Task}
@@ -18,6 +18,11 @@ verb_told verbs.Stack = StackVerb
 verb_told verbs.Augment = AugmentVerb
 verb_told verbs.Sub = SubVerb
 verb_told verbs.Convert = ConvertVerb
+verb_told verbs.Rank = RankVerb
+verb_told verbs.Echelon = EchelonVerb
+verb_told verbs.Inverse = InverseVerb
+verb_told verbs.Solve = SolveVerb
+verb_told verbs.Kernel = KernelVerb
 
 -- What a task asks for, the numbers among its operands, and the names of its files.
 abbrev pub command_told : Task → Command
@@ -29,6 +34,11 @@ command_told (tasks.Stack a b) = Stack
 command_told (tasks.Augment a b) = Augment
 command_told (tasks.Sub a r0 c0 r1 c1) = Sub r0 c0 r1 c1
 command_told (tasks.Convert a) = Convert
+command_told (tasks.Rank a) = Rank
+command_told (tasks.Echelon a) = Echelon
+command_told (tasks.Inverse a) = Inverse
+command_told (tasks.Solve a b) = Solve
+command_told (tasks.Kernel a) = Kernel
 
 abbrev pub numbers_told : Task → List ℕ
 numbers_told (tasks.Mul a b) = []
@@ -39,6 +49,11 @@ numbers_told (tasks.Stack a b) = []
 numbers_told (tasks.Augment a b) = []
 numbers_told (tasks.Sub a r0 c0 r1 c1) = r0 ∷ c0 ∷ r1 ∷ c1 ∷ []
 numbers_told (tasks.Convert a) = []
+numbers_told (tasks.Rank a) = []
+numbers_told (tasks.Echelon a) = []
+numbers_told (tasks.Inverse a) = []
+numbers_told (tasks.Solve a b) = []
+numbers_told (tasks.Kernel a) = []
 
 abbrev pub files_told : Task → List (List ℕ)
 files_told (tasks.Mul a b) = a.now ∷ b.now ∷ []
@@ -49,6 +64,11 @@ files_told (tasks.Stack a b) = a.now ∷ b.now ∷ []
 files_told (tasks.Augment a b) = a.now ∷ b.now ∷ []
 files_told (tasks.Sub a r0 c0 r1 c1) = a.now ∷ []
 files_told (tasks.Convert a) = a.now ∷ []
+files_told (tasks.Rank a) = a.now ∷ []
+files_told (tasks.Echelon a) = a.now ∷ []
+files_told (tasks.Inverse a) = a.now ∷ []
+files_told (tasks.Solve a b) = a.now ∷ b.now ∷ []
+files_told (tasks.Kernel a) = a.now ∷ []
 
 abbrev pub job_told : Job → Asked
 job_told asked = record { command = command_told asked.task; files = files_told asked.task; choices = choices_told asked.choices }

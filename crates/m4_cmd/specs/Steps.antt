@@ -137,6 +137,12 @@ WriteGives form answer out Read = ⊥
 WriteGives form answer out Write = WroteInPart form answer out
 WriteGives form answer out Memory = ⊥
 
+-- The line was taken, and the status is its own; or a write failed, and a front of it was taken, but not all of it.
+abbrev pub WritesLine : List ℕ → Status → Output → Status → Type 0
+WritesLine line own out status =
+    ((status ≡ own) × (out.now ≡ out.before) × Appends out.taken_before out.taken_now line)
+    ⊎ ((status ≡ Write) × Rose out.before out.now × AppendsFront out.taken_before out.taken_now line)
+
 -- The job's operands are accepted, and this is its answer.
 pub record IsJobAnswer (told : Option Stock) (asked : Job) (answer : Answer) : Type 0 where
   pub matrices : List Matrix

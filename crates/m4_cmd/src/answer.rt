@@ -1,9 +1,11 @@
-ghost use Rattle.m4_model.specs.Outcome.{OneMatrix};
+ghost use Rattle.std.specs.Prelude.{◌≡◌};
+ghost use Rattle.m4_model.specs.Outcome.{OneMatrix, rank_line};
 ghost use Rattle.m4_text.specs.Forms.{text_form};
 ghost use Rattle.m4_cmd.specs.Answer.{answer_told};
-ghost use Rattle.m4_cmd.specs.Steps.{WriteGives};
+ghost use Rattle.m4_cmd.specs.Steps.{WriteGives, WritesLine};
 
-use m4_io::Sink;
+use crate::line::{Line, plain_line, push, push_number};
+use m4_io::{Failed, Sink, write_whole};
 use m4_model::Status;
 use m4_mzd::Mzd;
 use m4_text::{Form, WriteFault, can_write, write_as};
@@ -13,6 +15,12 @@ use m4_text::{Form, WriteFault, can_write, write_as};
 pub(crate) enum Answer {
     /// One matrix.
     Matrix(Mzd),
+    /// A rank.
+    Rank(u32),
+    /// There is no inverse.
+    Singular,
+    /// There is no solution.
+    NoSolution,
 }
 
 /// Writes the text of an answer. One matrix is written in this form, where the form can hold it.
@@ -26,7 +34,35 @@ pub(crate) fn write_answer<O: Sink>(answer: &Answer, form: Form, out: &mut O) ->
 {
     match answer {
         Answer::Matrix(matrix) => write_matrix(matrix, form, out),
+        Answer::Rank(rank) => write_line(&rank_line(*rank), out, Status::Done),
+        Answer::Singular => write_line(&plain_line("singular\n"), out, Status::No),
+        Answer::NoSolution => write_line(&plain_line("no solution\n"), out, Status::No),
     }
+}
+
+/// Writes a line, which has this status.
+fn write_line<O: Sink>(line: &Line, out: &mut O, status: Status) -> Status
+    ensures { WritesLine line.now.bytes status (record {
+      before = O.faults out.old;
+      now = O.faults out.new;
+      taken_before = O.taken out.old;
+      taken_now = O.taken out.new;
+    }) result }
+{
+    match write_whole(out, line.as_bytes()) {
+        Ok(()) => status,
+        Err(Failed) => Status::Write,
+    }
+}
+
+/// The line of a rank.
+fn rank_line(rank: u32) -> Line
+    ensures { result.bytes ≡ rank_line rank }
+{
+    let mut line = plain_line("rank ");
+    push_number(&mut line, u64::from(rank));
+    push(&mut line, "\n");
+    line
 }
 
 /// Writes the text of one matrix in this form, where the form can hold it.

@@ -2,6 +2,7 @@
 
 ghost use Rattle.std.specs.Prelude.{◌≡◌, IfOk, IfErr, OnOk, [], ◌∷◌};
 ghost use Rattle.m4_model.specs.Outcome.{HasAnswer};
+ghost use Rattle.m4_model.specs.Text.{IsWithinLimits};
 ghost use Rattle.m4_model.specs.Words.{Addmul};
 ghost use Rattle.m4_cmd.specs.Answer.{answer_told};
 ghost use Rattle.m4_cmd.specs.Commands.{one_told, two_told};
@@ -14,6 +15,7 @@ use crate::operand::{read_operand, read_three, read_two};
 use crate::options::Choices;
 use crate::product::{addmul_answer, mul_answer};
 use crate::shape::{add_answer, augment_answer, stack_answer, sub_answer, transpose_answer};
+use crate::systems::{echelon_answer, inverse_answer, kernel_answer, rank_answer, solve_answer};
 use crate::words::{Job, Task};
 use m4_io::Shelf;
 use m4_model::Status;
@@ -26,6 +28,10 @@ pub(crate) enum OfOne {
     Transpose,
     Sub(Rect),
     Convert,
+    Rank,
+    Echelon,
+    Inverse,
+    Kernel,
 }
 
 /// A command on two matrices.
@@ -35,6 +41,7 @@ pub(crate) enum OfTwo {
     Add,
     Stack,
     Augment,
+    Solve,
 }
 
 /// The answer of a job.
@@ -57,6 +64,11 @@ pub(crate) fn answer_of<S: Shelf>(alloc: Global, job: &Job, shelf: &mut S) -> Re
             of_one(alloc, shelf, choices, OfOne::Sub(rect), a)
         }
         Task::Convert { a } => of_one(alloc, shelf, choices, OfOne::Convert, a),
+        Task::Rank { a } => of_one(alloc, shelf, choices, OfOne::Rank, a),
+        Task::Echelon { a } => of_one(alloc, shelf, choices, OfOne::Echelon, a),
+        Task::Inverse { a } => of_one(alloc, shelf, choices, OfOne::Inverse, a),
+        Task::Solve { a, b } => of_two(alloc, shelf, choices, OfTwo::Solve, a, b),
+        Task::Kernel { a } => of_one(alloc, shelf, choices, OfOne::Kernel, a),
     }
 }
 
@@ -81,6 +93,7 @@ fn of_one<S: Shelf>(
 
 /// What a command answers to one matrix.
 fn one_answer(alloc: Global, command: OfOne, a: Mzd) -> Result<Answer, Status>
+    requires limits { IsWithinLimits a.rows a.cols }
     ensures good { IfOk result (λ answer. HasAnswer (one_told command) (a ∷ []) (answer_told answer)) }
     ensures fails { IfErr result (AnswerFails (one_told command) (a ∷ [])) }
 {
@@ -88,6 +101,10 @@ fn one_answer(alloc: Global, command: OfOne, a: Mzd) -> Result<Answer, Status>
         OfOne::Transpose => transpose_answer(alloc, &a),
         OfOne::Sub(rect) => sub_answer(alloc, &a, rect),
         OfOne::Convert => Ok(Answer::Matrix(a)),
+        OfOne::Rank => rank_answer(alloc, &a),
+        OfOne::Echelon => echelon_answer(alloc, a),
+        OfOne::Inverse => inverse_answer(alloc, &a),
+        OfOne::Kernel => kernel_answer(alloc, &a),
     }
 }
 
@@ -121,6 +138,7 @@ fn two_answer(alloc: Global, command: OfTwo, a: Mzd, b: &Mzd) -> Result<Answer, 
         OfTwo::Add => add_answer(a, b),
         OfTwo::Stack => stack_answer(alloc, &a, b),
         OfTwo::Augment => augment_answer(alloc, &a, b),
+        OfTwo::Solve => solve_answer(alloc, &a, b),
     }
 }
 

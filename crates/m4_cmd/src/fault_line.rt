@@ -1,14 +1,8 @@
-ghost use Rattle.std.specs.Prelude.{◌≡◌, ◌+◌, ◌≤◌, ◌++◌, length, decimal};
+ghost use Rattle.std.specs.Prelude.{◌≡◌};
 ghost use Rattle.m4_model.specs.Outcome.{fault_line};
 
-use arrayvec::ArrayString;
+use crate::line::{Line, plain_line, push, push_number};
 use m4_model::Status;
-
-/// Room for the longest line, which has two numbers of twenty digits.
-const LINE_ROOM: usize = 96;
-
-/// A line on standard error, on the stack.
-type Line = ArrayString<LINE_ROOM>;
 
 /// What is said on standard error of a status: a line, or nothing for an answer.
 pub(crate) fn line_of(status: &Status) -> Line
@@ -44,31 +38,4 @@ fn text_line(operand: u64, at: u64) -> Line
     push_number(&mut line, at);
     push(&mut line, "\n");
     line
-}
-
-/// A line of this text.
-fn plain_line(text: &str) -> Line
-    requires { length text.now ≤ 96 }
-    ensures { result.bytes ≡ text.now }
-{
-    let mut line = Line::new();
-    push(&mut line, text);
-    line
-}
-
-/// Adds a text at the end.
-fn push(line: &mut Line, text: &str)
-    requires { length line.old.bytes + length text.now ≤ 96 }
-    ensures { line.new.bytes ≡ line.old.bytes ++ text.now }
-{
-    line.push_str(text);
-}
-
-/// Adds a number in digits at the end.
-fn push_number(line: &mut Line, number: u64)
-    requires { length line.old.bytes ≤ 76 }
-    ensures digits { line.new.bytes ≡ line.old.bytes ++ decimal number }
-    ensures room { length line.new.bytes ≤ length line.old.bytes + 20 }
-{
-    push(line, itoa::Buffer::new().format(number));
 }

@@ -3,14 +3,17 @@
 
 mod answer;
 mod commands;
+mod context;
 mod fault_line;
 mod gate;
+mod line;
 mod operand;
 mod options;
 mod product;
 mod program;
 mod progress;
 mod shape;
+mod systems;
 #[cfg(test)]
 mod tests;
 mod words;

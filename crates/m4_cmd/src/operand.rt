@@ -1,4 +1,5 @@
 ghost use Rattle.std.specs.Prelude.{◌≡◌, IfOk, IfErr, OnOk, [], ◌∷◌};
+ghost use Rattle.m4_model.specs.Text.{IsWithinLimits};
 ghost use Rattle.m4_model.specs.Texts.{ReadsAs};
 ghost use Rattle.m4_text.specs.Forms.{text_form};
 ghost use Rattle.m4_cmd.specs.Steps.{IsReadAs, AreReadAs, OperandFails, OperandsFail, TextFails};
@@ -22,6 +23,7 @@ pub(crate) fn read_operand<S: Shelf>(
 ) -> Result<Mzd, Status>
     ensures stock { S.stock shelf.new ≡ S.stock shelf.old }
     ensures read { IfOk result (IsReadAs (S.stock shelf.old) (text_form form) name.now) }
+    ensures limits { IfOk result (λ m. IsWithinLimits m.rows m.cols) }
     ensures kept { OnOk result (S.faults shelf.new ≡ S.faults shelf.old) }
     ensures fails { IfErr result (OperandFails (S.stock shelf.old) (text_form form) name.now number (S.faults shelf.old) (S.faults shelf.new)) }
 {
@@ -35,6 +37,7 @@ pub(crate) fn read_operand<S: Shelf>(
 /// The matrix whose text these bytes are.
 fn matrix_in(alloc: Global, form: Form, bytes: &[u8], number: u64) -> Result<Mzd, Status>
     ensures read { IfOk result (ReadsAs (text_form form) bytes.now) }
+    ensures limits { IfOk result (λ m. IsWithinLimits m.rows m.cols) }
     ensures fails { IfErr result (TextFails (text_form form) bytes.now number) }
 {
     match read_as(alloc, form, bytes) {

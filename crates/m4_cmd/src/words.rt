@@ -60,6 +60,27 @@ pub enum Task<'a> {
     Convert {
         a: &'a str,
     },
+    /// The rank of a matrix.
+    Rank {
+        a: &'a str,
+    },
+    /// The reduced row echelon form, with all its rows.
+    Echelon {
+        a: &'a str,
+    },
+    /// The inverse, or that the matrix is singular.
+    Inverse {
+        a: &'a str,
+    },
+    /// The solution X of A X = B whose rows at the free columns of A are zero, or that there is none.
+    Solve {
+        a: &'a str,
+        b: &'a str,
+    },
+    /// The basis of the kernel that is the identity at the free columns.
+    Kernel {
+        a: &'a str,
+    },
 }
 
 /// What the words ask for.
@@ -80,6 +101,11 @@ pub(crate) enum Verb {
     Augment,
     Sub,
     Convert,
+    Rank,
+    Echelon,
+    Inverse,
+    Solve,
+    Kernel,
 }
 
 /// The job that the words after the program's name ask for. It takes no memory.
@@ -121,6 +147,11 @@ fn verb_of(word: &str) -> Option<Verb>
         "augment" => Some(Verb::Augment),
         "sub" => Some(Verb::Sub),
         "convert" => Some(Verb::Convert),
+        "rank" => Some(Verb::Rank),
+        "echelon" => Some(Verb::Echelon),
+        "inverse" => Some(Verb::Inverse),
+        "solve" => Some(Verb::Solve),
+        "kernel" => Some(Verb::Kernel),
         _ => None,
     }
 }
@@ -173,6 +204,22 @@ fn task_of<'a>(
             c1: next_number(words, progress)?,
         }),
         Verb::Convert => Ok(Task::Convert {
+            a: next_name(words, progress)?,
+        }),
+        Verb::Rank => Ok(Task::Rank {
+            a: next_name(words, progress)?,
+        }),
+        Verb::Echelon => Ok(Task::Echelon {
+            a: next_name(words, progress)?,
+        }),
+        Verb::Inverse => Ok(Task::Inverse {
+            a: next_name(words, progress)?,
+        }),
+        Verb::Solve => Ok(Task::Solve {
+            a: next_name(words, progress)?,
+            b: next_name(words, progress)?,
+        }),
+        Verb::Kernel => Ok(Task::Kernel {
             a: next_name(words, progress)?,
         }),
     }

@@ -2,9 +2,11 @@
 use Rattle.std.specs.Prelude.{◌≡◌, ℕ, ◌+◌, ◌%◌, ◌≤◌, ◌⊎◌, List, [], ◌∷◌, ◌++◌, length, Option, Some, None, option_map, find, bytes_eq, Ok, Err, codes, decimal}
 use Rattle.m4_model.specs.Matrix.{Matrix, added, product}
 use Rattle.m4_model.specs.Shapes.{transposed, above, beside, cut, replace}
+use Rattle.m4_model.specs.Rank.{IsRank}
+use Rattle.m4_model.specs.Forms.{IsReduced, IsInverse, Singular, IsSolution, NoSolution, IsKernel}
 use Rattle.m4_model.specs.Text.{Fault, BadAt, PastLimit, IsWithinLimits}
 use Rattle.m4_model.specs.Texts.{TextForm, can_hold, text_as, ReadsAs, RefusalAs}
-use Rattle.m4_model.specs.Words.{Command, Mul, Addmul, Add, Transpose, Stack, Augment, Sub, Convert, Job, job}
+use Rattle.m4_model.specs.Words.{Command, Mul, Addmul, Add, Transpose, Stack, Augment, Sub, Convert, Rank, Echelon, Inverse, Solve, Kernel, Job, job}
 use Rattle.m4_model.specs.declared.status.Status.{Status}
 use Rattle.m4_model.specs.declared.status.Status.TheVariants.{Done, No, Words, Text, Shape, Limit, Read, Write, Memory}
 
@@ -69,14 +71,22 @@ Fits Stack (A ∷ B ∷ []) = A.cols ≡ B.cols
 Fits Augment (A ∷ B ∷ []) = A.rows ≡ B.rows
 Fits (Sub row col row_end col_end) (A ∷ []) = HasRectangle A row col row_end col_end
 Fits Convert (A ∷ []) = Unit {0}
+Fits Rank (A ∷ []) = Unit {0}
+Fits Echelon (A ∷ []) = Unit {0}
+Fits Inverse (A ∷ []) = A.cols ≡ A.rows
+Fits Solve (A ∷ B ∷ []) = A.rows ≡ B.rows
+Fits Kernel (A ∷ []) = Unit {0}
 Fits command other = ⊥
 
--- The shape of the answer is within the limits. An answer no larger than an operand always is.
+-- The shape of the answer is within the limits. An answer no larger than an operand always is. The shape of a solution
+-- counts also where there is none.
 abbrev pub InBounds : Command → List Matrix → Type 0
 InBounds Mul (A ∷ B ∷ []) = IsWithinLimits A.rows B.cols
 InBounds Transpose (A ∷ []) = IsWithinLimits A.cols A.rows
 InBounds Stack (A ∷ B ∷ []) = IsWithinLimits (A.rows + B.rows) A.cols
 InBounds Augment (A ∷ B ∷ []) = IsWithinLimits A.rows (A.cols + B.cols)
+InBounds Solve (A ∷ B ∷ []) = IsWithinLimits A.cols B.cols
+InBounds Kernel (A ∷ []) = (K : Matrix) × IsKernel K A × IsWithinLimits K.rows K.cols
 InBounds command other = Unit {0}
 
 -- What a command answers: a matrix, some lines of text, or that there is no answer, with the line that says so.
@@ -90,6 +100,22 @@ abbrev pub with_product : Matrix → ℕ → ℕ → Matrix → Matrix → Matri
 with_product C row col A B =
     replace C row col (added (cut C row col (row + A.rows) (col + B.cols)) (product A B))
 
+-- The answer is a matrix with this property.
+abbrev pub IsMatrixWith : (Matrix → Type 0) → Answer → Type 0
+IsMatrixWith property (OneMatrix R) = property R
+IsMatrixWith property (Lines lines) = ⊥
+IsMatrixWith property (NoAnswer line) = ⊥
+
+-- The answer is a matrix with this property, or that there is none, for this cause and with this line.
+abbrev pub IsMatrixOrNone : (Matrix → Type 0) → Type 0 → List ℕ → Answer → Type 0
+IsMatrixOrNone property cause line (OneMatrix R) = property R
+IsMatrixOrNone property cause line (Lines lines) = ⊥
+IsMatrixOrNone property cause line (NoAnswer said) = cause × (said ≡ line)
+
+-- The line of a rank.
+abbrev pub rank_line : ℕ → List ℕ
+rank_line r = codes "rank " ++ (decimal r ++ codes "\n")
+
 -- This is the command's answer.
 abbrev pub IsAnswer : Command → List Matrix → Answer → Type 0
 IsAnswer Mul (A ∷ B ∷ []) answer = answer ≡ OneMatrix (product A B)
@@ -100,6 +126,11 @@ IsAnswer Stack (A ∷ B ∷ []) answer = answer ≡ OneMatrix (above A B)
 IsAnswer Augment (A ∷ B ∷ []) answer = answer ≡ OneMatrix (beside A B)
 IsAnswer (Sub row col row_end col_end) (A ∷ []) answer = answer ≡ OneMatrix (cut A row col row_end col_end)
 IsAnswer Convert (A ∷ []) answer = answer ≡ OneMatrix A
+IsAnswer Rank (A ∷ []) answer = (r : ℕ) × IsRank A r × (answer ≡ Lines (rank_line r))
+IsAnswer Echelon (A ∷ []) answer = IsMatrixWith (λ R. IsReduced R A) answer
+IsAnswer Inverse (A ∷ []) answer = IsMatrixOrNone (λ X. IsInverse X A) (Singular A) (codes "singular\n") answer
+IsAnswer Solve (A ∷ B ∷ []) answer = IsMatrixOrNone (λ X. IsSolution X A B) (NoSolution A B) (codes "no solution\n") answer
+IsAnswer Kernel (A ∷ []) answer = IsMatrixWith (λ K. IsKernel K A) answer
 IsAnswer command other answer = ⊥
 
 -- The status of an answer.

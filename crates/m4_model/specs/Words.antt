@@ -14,6 +14,11 @@ pub data Command : Type 0 where
   Augment : Command
   Sub : (row col row_end col_end : ℕ) → Command
   Convert : Command
+  Rank : Command
+  Echelon : Command
+  Inverse : Command
+  Solve : Command
+  Kernel : Command
 
 -- What the options choose: the form of all files that are read, and that of an answer that is one matrix.
 pub record Choices : Type 0 where
@@ -36,6 +41,11 @@ pub data Verb : Type 0 where
   AugmentVerb : Verb
   SubVerb : Verb
   ConvertVerb : Verb
+  RankVerb : Verb
+  EchelonVerb : Verb
+  InverseVerb : Verb
+  SolveVerb : Verb
+  KernelVerb : Verb
 
 -- The verb that a word is.
 abbrev pub verb_of : List ℕ → Option Verb
@@ -48,6 +58,11 @@ verb_of word =
     else if bytes_eq word (codes "augment") then Some AugmentVerb
     else if bytes_eq word (codes "sub") then Some SubVerb
     else if bytes_eq word (codes "convert") then Some ConvertVerb
+    else if bytes_eq word (codes "rank") then Some RankVerb
+    else if bytes_eq word (codes "echelon") then Some EchelonVerb
+    else if bytes_eq word (codes "inverse") then Some InverseVerb
+    else if bytes_eq word (codes "solve") then Some SolveVerb
+    else if bytes_eq word (codes "kernel") then Some KernelVerb
     else None
 
 -- What stands in a place behind the verb: the name of a file, or a number.
@@ -65,6 +80,11 @@ kinds_of StackVerb = FileName ∷ FileName ∷ []
 kinds_of AugmentVerb = FileName ∷ FileName ∷ []
 kinds_of SubVerb = FileName ∷ Number ∷ Number ∷ Number ∷ Number ∷ []
 kinds_of ConvertVerb = FileName ∷ []
+kinds_of RankVerb = FileName ∷ []
+kinds_of EchelonVerb = FileName ∷ []
+kinds_of InverseVerb = FileName ∷ []
+kinds_of SolveVerb = FileName ∷ FileName ∷ []
+kinds_of KernelVerb = FileName ∷ []
 
 -- The command of a verb with its numbers, which are as many as its places have.
 abbrev pub command_of : Verb → List ℕ → Option Command
@@ -76,6 +96,11 @@ command_of StackVerb [] = Some Stack
 command_of AugmentVerb [] = Some Augment
 command_of SubVerb (row ∷ col ∷ row_end ∷ col_end ∷ []) = Some (Sub row col row_end col_end)
 command_of ConvertVerb [] = Some Convert
+command_of RankVerb [] = Some Rank
+command_of EchelonVerb [] = Some Echelon
+command_of InverseVerb [] = Some Inverse
+command_of SolveVerb [] = Some Solve
+command_of KernelVerb [] = Some Kernel
 command_of verb numbers = None
 
 -- The number that a word is: it is in decimal, as `0`, or a digit from 1 to 9 and at most eight more.

@@ -1,0 +1,38 @@
+//! Short lines, put together on the stack.
+
+ghost use Rattle.std.specs.Prelude.{◌≡◌, ◌+◌, ◌≤◌, ◌++◌, length, decimal};
+
+use arrayvec::ArrayString;
+
+/// Room for the longest line, which has two numbers of twenty digits.
+const LINE_ROOM: usize = 96;
+
+/// A line, on the stack.
+pub(crate) type Line = ArrayString<LINE_ROOM>;
+
+/// A line of this text.
+pub(crate) fn plain_line(text: &str) -> Line
+    requires { length text.now ≤ 96 }
+    ensures { result.bytes ≡ text.now }
+{
+    let mut line = Line::new();
+    push(&mut line, text);
+    line
+}
+
+/// Adds a text at the end.
+pub(crate) fn push(line: &mut Line, text: &str)
+    requires { length line.old.bytes + length text.now ≤ 96 }
+    ensures { line.new.bytes ≡ line.old.bytes ++ text.now }
+{
+    line.push_str(text);
+}
+
+/// Adds a number in digits at the end.
+pub(crate) fn push_number(line: &mut Line, number: u64)
+    requires { length line.old.bytes ≤ 76 }
+    ensures digits { line.new.bytes ≡ line.old.bytes ++ decimal number }
+    ensures room { length line.new.bytes ≤ length line.old.bytes + 20 }
+{
+    push(line, itoa::Buffer::new().format(number));
+}
