@@ -11,8 +11,8 @@ ghost use Rattle.m4_cmd.specs.Options.{choices_told};
 ghost use Rattle.m4_cmd.specs.Steps.{AnswerFails, EndsUnwritten, IsJobAnswer};
 
 use crate::answer::Answer;
+use crate::choices::Choices;
 use crate::operand::{read_operand, read_three, read_two};
-use crate::options::Choices;
 use crate::product::{addmul_answer, mul_answer};
 use crate::shape::{add_answer, augment_answer, stack_answer, sub_answer, transpose_answer};
 use crate::systems::{echelon_answer, inverse_answer, kernel_answer, rank_answer, solve_answer};
@@ -88,11 +88,11 @@ fn of_one<S: Shelf>(
         (record { command = one_told command; files = a.now ∷ []; choices = choices_told choices }) (S.faults shelf.old) (S.faults shelf.new)) }
 {
     let matrix = read_operand(alloc, shelf, choices.from, a, 1)?;
-    one_answer(alloc, command, matrix)
+    one_answer(alloc, choices, command, matrix)
 }
 
 /// What a command answers to one matrix.
-fn one_answer(alloc: Global, command: OfOne, a: Mzd) -> Result<Answer, Status>
+fn one_answer(alloc: Global, choices: Choices, command: OfOne, a: Mzd) -> Result<Answer, Status>
     requires limits { IsWithinLimits a.rows a.cols }
     ensures good { IfOk result (λ answer. HasAnswer (one_told command) (a ∷ []) (answer_told answer)) }
     ensures fails { IfErr result (AnswerFails (one_told command) (a ∷ [])) }
@@ -101,10 +101,10 @@ fn one_answer(alloc: Global, command: OfOne, a: Mzd) -> Result<Answer, Status>
         OfOne::Transpose => transpose_answer(alloc, &a),
         OfOne::Sub(rect) => sub_answer(alloc, &a, rect),
         OfOne::Convert => Ok(Answer::Matrix(a)),
-        OfOne::Rank => rank_answer(alloc, &a),
-        OfOne::Echelon => echelon_answer(alloc, a),
-        OfOne::Inverse => inverse_answer(alloc, &a),
-        OfOne::Kernel => kernel_answer(alloc, &a),
+        OfOne::Rank => rank_answer(alloc, choices, &a),
+        OfOne::Echelon => echelon_answer(alloc, choices, a),
+        OfOne::Inverse => inverse_answer(alloc, choices, &a),
+        OfOne::Kernel => kernel_answer(alloc, choices, &a),
     }
 }
 
@@ -125,20 +125,26 @@ fn of_two<S: Shelf>(
         (record { command = two_told command; files = a.now ∷ b.now ∷ []; choices = choices_told choices }) (S.faults shelf.old) (S.faults shelf.new)) }
 {
     let (left, right) = read_two(alloc, shelf, choices.from, a, b)?;
-    two_answer(alloc, command, left, &right)
+    two_answer(alloc, choices, command, left, &right)
 }
 
 /// What a command answers to two matrices.
-fn two_answer(alloc: Global, command: OfTwo, a: Mzd, b: &Mzd) -> Result<Answer, Status>
+fn two_answer(
+    alloc: Global,
+    choices: Choices,
+    command: OfTwo,
+    a: Mzd,
+    b: &Mzd,
+) -> Result<Answer, Status>
     ensures good { IfOk result (λ answer. HasAnswer (two_told command) (a ∷ b.now ∷ []) (answer_told answer)) }
     ensures fails { IfErr result (AnswerFails (two_told command) (a ∷ b.now ∷ [])) }
 {
     match command {
-        OfTwo::Mul => mul_answer(alloc, &a, b),
+        OfTwo::Mul => mul_answer(alloc, choices, &a, b),
         OfTwo::Add => add_answer(a, b),
         OfTwo::Stack => stack_answer(alloc, &a, b),
         OfTwo::Augment => augment_answer(alloc, &a, b),
-        OfTwo::Solve => solve_answer(alloc, &a, b),
+        OfTwo::Solve => solve_answer(alloc, choices, &a, b),
     }
 }
 
@@ -161,5 +167,5 @@ fn addmul<S: Shelf>(
         (S.faults shelf.old) (S.faults shelf.new)) }
 {
     let (sum, left, right) = read_three(alloc, shelf, choices.from, c, a, b)?;
-    addmul_answer(sum, place.0, place.1, &left, &right)
+    addmul_answer(alloc, choices, sum, place.0, place.1, &left, &right)
 }

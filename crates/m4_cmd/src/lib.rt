@@ -2,11 +2,13 @@
 #![tactic(auto)]
 
 mod answer;
+mod choices;
 mod commands;
 mod context;
 mod fault_line;
 mod gate;
 mod line;
+mod number;
 mod operand;
 mod options;
 mod product;
@@ -18,10 +20,10 @@ mod systems;
 mod tests;
 mod words;
 
+pub use choices::{Algo, Choices};
 pub use gate::{Gate, OpenGate};
 pub use m4_io::{Failed, FileShelf, MemShelf, MemSink, Shelf, Sink, StreamSink};
 pub use m4_model::Status;
 pub use m4_text::Form;
-pub use options::Choices;
 pub use program::run;
 pub use words::{Job, Task, WordFault, job_of};

@@ -1,15 +1,15 @@
 //! The words behind the first, read from left to right: options wherever they stand, and operands in their order.
 
 ghost use Rattle.std.specs.Prelude.{◌≡◌, ℕ, ◌+◌, ◌^◌, ◌<◌, ◌≤◌, List, [], ◌∷◌, ◌++◌, length, option_map, IfOk, IfErr, OnOk};
-ghost use Rattle.m4_model.specs.Words.{Kind, FileName, Number, number_of, is_equals_sign, with_option};
+ghost use Rattle.m4_model.specs.Words.{Kind, FileName, Number, is_equals_sign, with_option};
 ghost use Rattle.std.specs.List.{before_first, after_first};
 ghost use Rattle.m4_cmd.specs.Options.{given_told};
 ghost use Rattle.m4_cmd.specs.Progress.{told_from, IsOperandNext};
 ghost use Rattle.m4_cmd.specs.Texts.{texts};
 
+use crate::number::parse_number;
 use crate::options::Given;
 use crate::words::WordFault;
-use itoa::Buffer;
 
 /// How far the words are read: the index of the next, and the options so far.
 #[derive(Clone, Copy)]
@@ -119,22 +119,6 @@ fn and_option(given: Given, word: &str) -> Option<Given>
 {
     let (name, value) = word.split_once('=').unwrap_or((word, ""));
     given.with_option(name, value)
-}
-
-/// The number that a word is, in decimal.
-fn parse_number(word: &str) -> Option<u32>
-    ensures { result ≡ number_of word.now }
-{
-    let Ok(number) = word.parse::<u32>() else {
-        return None;
-    };
-    if number >= 1_000_000_000 {
-        return None;
-    }
-    if Buffer::new().format(number) != word {
-        return None;
-    }
-    Some(number)
 }
 
 /// That the word at this index is refused.

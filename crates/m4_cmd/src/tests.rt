@@ -94,6 +94,14 @@ fn assert_ended(rt: &impl Abort, ended: &Ended, status: Status, out: &[u8], err:
     assert_eq!(rt; ended.err.taken(), err.as_bytes());
 }
 
+/// Options that choose how products are computed.
+const ENGINES: [&[&str]; 4] = [
+    &[],
+    &["--algo=plain"],
+    &["--algo=table", "--k=1", "--tables=8"],
+    &["--tables=1", "--k=8"],
+];
+
 #[test]
 fn products(rt: HostRuntime) -> Result<(), Fail> {
     let ones = "1".repeat(rt.alloc(), 65)?;
@@ -117,8 +125,12 @@ fn products(rt: HostRuntime) -> Result<(), Fail> {
             b"gf2 0 0\n".as_slice(),
         ),
     ] {
-        let ended = run_on(rt.alloc(), &MUL, a, b, &AMPLE)?;
-        assert_ended(&rt, &ended, Status::Done, product, "");
+        for options in ENGINES {
+            let mut words = Vec::from_slice(rt.alloc(), &MUL)?;
+            words.extend_from_slice(options)?;
+            let ended = run_on(rt.alloc(), &words, a, b, &AMPLE)?;
+            assert_ended(&rt, &ended, Status::Done, product, "");
+        }
     }
     Ok(())
 }
@@ -180,7 +192,7 @@ fn products_that_are_not_added(rt: HostRuntime) -> Result<(), Fail> {
 }
 
 /// Words that are refused, and the number of the first.
-const REFUSED_WORDS: [(&[&str], u64); 21] = [
+const REFUSED_WORDS: [(&[&str], u64); 24] = [
     (&[], 1),
     (&["multiply", "A", "B"], 1),
     (&["--in=text", "mul", "A", "B"], 1),
@@ -189,6 +201,9 @@ const REFUSED_WORDS: [(&[&str], u64); 21] = [
     (&["mul", "A", "B", "C"], 4),
     (&["mul", "--k=9", "A", "B"], 2),
     (&["mul", "--k=08", "A", "B"], 2),
+    (&["mul", "A", "B", "--k=4", "--k=4"], 5),
+    (&["mul", "A", "B", "--tables=0"], 4),
+    (&["mul", "A", "B", "--algo=strassen"], 4),
     (&["mul", "A", "B", "--in=text", "--in=text"], 5),
     (
         &["mul", "--out=bare", "A", "--in=bare", "--out=jcf", "B"],

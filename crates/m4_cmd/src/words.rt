@@ -4,7 +4,7 @@ ghost use Rattle.m4_cmd.specs.Job.{verb_told, command_told, numbers_told, files_
 ghost use Rattle.m4_cmd.specs.Progress.{told_from};
 ghost use Rattle.m4_cmd.specs.Texts.{texts};
 
-use crate::options::Choices;
+use crate::choices::Choices;
 use crate::progress::{Progress, end, next_name, next_number};
 
 /// The word of this number, counted from 1, is refused. It is one past the last word where a word is missing.

@@ -2,11 +2,11 @@
 use Rattle.std.proofs.Common.{◌≡◌, ℕ, List, [], ◌∷◌, refl, Result, Ok, Err, codes}
 use Rattle.std.specs.Fmt.{digits}
 use Rattle.m4_model.specs.Texts.{TextForm, Headed, Bare, Jcf}
-use Rattle.m4_model.specs.Words.{Command, Mul, Addmul, Sub, Convert, Job, job, understand}
+use Rattle.m4_model.specs.Words.{Algo, Plain, Table, Command, Mul, Addmul, Sub, Convert, Job, job, understand}
 
 -- the job of a command on these files, with these forms
 asks : Command → List (List ℕ) → TextForm → TextForm → Result Job ℕ
-asks command files from into = Ok (record { command = command; files = files; choices = record { from = from; into = into } })
+asks command files from into = Ok (record { command = command; files = files; choices = record { algo = Table; k = 6; tables = 4; from = from; into = into } })
 
 product_of_two : job (codes "mul" ∷ codes "A" ∷ codes "B" ∷ []) ≡ asks Mul (codes "A" ∷ codes "B" ∷ []) Headed Headed
 unfolding job understand digits asks
@@ -28,6 +28,19 @@ a_name_with_equals_sign = refl
 corners_of_a_part : job (codes "sub" ∷ codes "A" ∷ codes "0" ∷ codes "1" ∷ codes "2" ∷ codes "3" ∷ []) ≡ asks (Sub 0 1 2 3) (codes "A" ∷ []) Headed Headed
 unfolding job understand digits asks
 corners_of_a_part = refl
+
+options_of_products : job (codes "mul" ∷ codes "A" ∷ codes "--algo=plain" ∷ codes "B" ∷ codes "--k=8" ∷ codes "--tables=1" ∷ [])
+    ≡ Ok (record { command = Mul; files = codes "A" ∷ codes "B" ∷ []; choices = record { algo = Plain; k = 8; tables = 1; from = Headed; into = Headed } })
+unfolding job understand digits
+options_of_products = refl
+
+too_large_an_option : job (codes "mul" ∷ codes "--k=9" ∷ codes "A" ∷ codes "B" ∷ []) ≡ Err 2
+unfolding job understand digits
+too_large_an_option = refl
+
+an_option_with_leading_zero : job (codes "mul" ∷ codes "--k=08" ∷ codes "A" ∷ codes "B" ∷ []) ≡ Err 2
+unfolding job understand digits
+an_option_with_leading_zero = refl
 
 no_words : job [] ≡ Err 1
 unfolding job

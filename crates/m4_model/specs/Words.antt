@@ -1,5 +1,6 @@
 -- The words of a command line, and the job that they ask for.
-use Rattle.std.specs.Prelude.{◌==◌, ℕ, suc, ◌^◌, List, [], ◌∷◌, ◌++◌, Option, Some, None, Result, Ok, Err, option_map, unwrap_or, codes, decimal, bytes_eq, nat_eq, nat_lt, Bool, ◌&&◌, if◌then◌else◌}
+use Rattle.std.specs.Prelude.{◌==◌, ℕ, suc, ◌^◌, List, [], ◌∷◌, ◌++◌, Option, Some, None, Result, Ok, Err, option_map, unwrap_or, codes, decimal, bytes_eq, nat_eq, nat_lt, nat_le, Bool, ◌&&◌, if◌then◌else◌}
+use Rattle.std.specs.Option.{option_and_then}
 use Rattle.std.specs.List.{starts_with, before_first, after_first}
 use Rattle.std.specs.Str.Parse.{digits_value}
 use Rattle.m4_model.specs.Texts.{TextForm, Headed, Bare, Jcf}
@@ -20,8 +21,17 @@ pub data Command : Type 0 where
   Solve : Command
   Kernel : Command
 
--- What the options choose: the form of all files that are read, and that of an answer that is one matrix.
+-- How products are computed: row by row, or by tables. The answer is the same.
+pub data Algo : Type 0 where
+  Plain : Algo
+  Table : Algo
+
+-- What the options choose: how products are computed, with the columns of a table and how many tables are used at a time;
+-- the form of all files that are read, and that of an answer that is one matrix.
 pub record Choices : Type 0 where
+  pub algo : Algo
+  pub k : ℕ
+  pub tables : ℕ
   pub from : TextForm
   pub into : TextForm
 
@@ -108,6 +118,17 @@ abbrev pub number_of : List ℕ → Option ℕ
 number_of word =
     if nat_lt (digits_value 10 word) (10 ^ 9) && bytes_eq word (decimal (digits_value 10 word)) then Some (digits_value 10 word) else None
 
+-- The number that a value is, if it lies between these two.
+abbrev pub number_between : ℕ → ℕ → List ℕ → Option ℕ
+number_between low high value = option_and_then (λ n. if nat_le low n && nat_le n high then Some n else None) (number_of value)
+
+-- The algorithm that a value names.
+abbrev pub algo_of : List ℕ → Option Algo
+algo_of value =
+    if bytes_eq value (codes "plain") then Some Plain
+    else if bytes_eq value (codes "table") then Some Table
+    else None
+
 -- The form that a value names.
 abbrev pub form_of : List ℕ → Option TextForm
 form_of value =
@@ -118,15 +139,24 @@ form_of value =
 
 -- The options that are given, each with its value.
 pub record Given : Type 0 where
+  pub algo : Option Algo
+  pub k : Option ℕ
+  pub tables : Option ℕ
   pub from : Option TextForm
   pub into : Option TextForm
 
 abbrev pub none_given : Given
-none_given = record { from = None; into = None }
+none_given = record { algo = None; k = None; tables = None; from = None; into = None }
 
 -- What is chosen where these options are given, with what holds where one is not.
 abbrev pub choices_of : Given → Choices
-choices_of given = record { from = unwrap_or given.from Headed; into = unwrap_or given.into Headed }
+choices_of given = record {
+  algo = unwrap_or given.algo Table;
+  k = unwrap_or given.k 6;
+  tables = unwrap_or given.tables 4;
+  from = unwrap_or given.from Headed;
+  into = unwrap_or given.into Headed;
+}
 
 -- The value of an option that has not been given before.
 abbrev pub once : {A : Type 0} → Option A → Option A → Option A
@@ -137,7 +167,10 @@ once (Some before) value = None
 -- name that was given before.
 abbrev pub with_option : List ℕ → List ℕ → Given → Option Given
 with_option name value given =
-    if bytes_eq name (codes "--in") then option_map (λ form. record given { from = Some form }) (once given.from (form_of value))
+    if bytes_eq name (codes "--algo") then option_map (λ algo. record given { algo = Some algo }) (once given.algo (algo_of value))
+    else if bytes_eq name (codes "--k") then option_map (λ k. record given { k = Some k }) (once given.k (number_between 1 8 value))
+    else if bytes_eq name (codes "--tables") then option_map (λ tables. record given { tables = Some tables }) (once given.tables (number_between 1 8 value))
+    else if bytes_eq name (codes "--in") then option_map (λ form. record given { from = Some form }) (once given.from (form_of value))
     else if bytes_eq name (codes "--out") then option_map (λ form. record given { into = Some form }) (once given.into (form_of value))
     else None
 

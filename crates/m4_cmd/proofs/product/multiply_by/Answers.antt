@@ -4,10 +4,10 @@ use Rattle.m4_model.specs.Matrix.{zero_matrix, added, product}
 use Rattle.m4_mzd.specs.Window.{content}
 use Rattle.m4_mzd.specs.Seen.{shown}
 use Rattle.m4_cmd.proofs.ProductLemmas.{added-zeros}
-use Rattle.m4_cmd.proofs.product.multiply.Goals as goal
+use Rattle.m4_cmd.proofs.product.multiply_by.Goals as goal
 
 pub returns : goal.returns
-returns c =
+returns g c =
     let A = c.args.a.now in
     let B = c.args.b.now in
     let zeros : content c.all_mut-all.result.0 ≡ zero_matrix gf2 A.rows B.cols =

@@ -2,7 +2,7 @@ use Rattle.std.proofs.Common.{◌≡◌, ℕ, Result, Ok, decimal, ap, sym, ◌�
 use Rattle.std.proofs.lemmas.Fmt.{parse-decimal}
 use Rattle.std.proofs.lemmas.Slice.Eq.{bytes_eq-Decides}
 use Rattle.m4_cmd.proofs.WordsLemmas.{number-decimal, number-none}
-use Rattle.m4_cmd.proofs.progress.parse_number.Goals as goal
+use Rattle.m4_cmd.proofs.number.parse_number.Goals as goal
 
 one_value : {E : Type 0} (r : Result ℕ E) (m n : ℕ) → r ≡ Ok m → r ≡ Ok n → m ≡ n
 one_value r m n first second = cc

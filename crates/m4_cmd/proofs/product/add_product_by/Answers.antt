@@ -4,10 +4,10 @@ use Rattle.m4_model.specs.Shapes.{cut, replace}
 use Rattle.m4_mzd.specs.Window.{Window, content}
 use Rattle.m4_mzd.specs.Seen.{shown}
 use Rattle.m4_mzd.specs.Around.{IsAround}
-use Rattle.m4_cmd.proofs.product.add_product.Goals as goal
+use Rattle.m4_cmd.proofs.product.add_product_by.Goals as goal
 
 pub returns : goal.returns
-returns c =
+returns g c =
     let C = c.args.c.now in
     let rect = c.args.rect in
     let sum = added (content c.win_mut-part.result.0) (product (shown c.all.result) (shown c.all-2.result)) in
