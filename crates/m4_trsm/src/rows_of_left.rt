@@ -63,7 +63,7 @@ fn add_where(t: &Win, first: u32, column: u32, rows: &mut WinMut, from: &Win, s:
     let _triangle = t.rows();
     for r in 0..rows.rows() {
         if t.get(first + r, column) {
-            rows.add_row(r, from, s);
+            rows.add_tail(r, from, s, 0);
         }
     }
 }

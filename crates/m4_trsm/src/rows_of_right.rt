@@ -36,7 +36,7 @@ fn take_out_before(t: &Win, b: &mut WinMut, r: u32, j: u32)
     let _cols = b.cols();
     let _triangle = t.rows();
     if b.get(r, j) {
-        b.add_row(r, t, j);
+        b.add_tail(r, t, j, 0);
         b.add_tail(r, t, j, j);
     }
 }

@@ -12,11 +12,11 @@ loop-r-init c =
     ap (showing W) (added_where-none (content W) (shown c.args.from.now) (shown c.args.t.now) c.args.first c.args.column c.args.s
     c.rows-r-end.ensures.shape.matrix refl c.cols-source.ensures.matrix refl c.requires.same_cols c.requires.in_from)
 
-pub add_row-requires-clause-in_rows : goal.add_row-requires-clause-in_rows
-add_row-requires-clause-in_rows c = rw c.loop-r.invariant (omega (arith, c.rows-r-end.ensures.rows))
+pub add_tail-requires-clause-in_rows : goal.add_tail-requires-clause-in_rows
+add_tail-requires-clause-in_rows c = rw c.loop-r.invariant (omega (arith, c.rows-r-end.ensures.rows))
 
-pub add_row-requires-clause-same_cols : goal.add_row-requires-clause-same_cols
-add_row-requires-clause-same_cols c = rw c.loop-r.invariant c.requires.same_cols
+pub add_tail-requires-clause-same_cols : goal.add_tail-requires-clause-same_cols
+add_tail-requires-clause-same_cols c = rw c.loop-r.invariant c.requires.same_cols
 
 pub loop-r-preserved : goal.loop-r-preserved
 loop-r-preserved c =
@@ -28,7 +28,7 @@ loop-r-preserved c =
     let below : r < C.rows = omega (arith, c.rows-r-end.ensures.rows) in
     elim c.if-get.branch [
       | then-get w ↦
-          w.rows-is ∙ (w.add_row.ensures
+          w.rows-is ∙ (w.add_tail.ensures
           ∙ (ap (λ (L : Window). showing L (with_row (content L) r (row_sum (row (content L) r) (row F c.args.s)))) c.loop-r.invariant
           ∙ ap (showing W)
           (added_where-one C F T c.args.first c.args.column c.args.s c.rows-r-end.ensures.shape.matrix refl c.cols-source.ensures.matrix refl c.requires.same_cols c.requires.in_from

@@ -17,8 +17,8 @@ returns-then-get c =
     let wide : length xs ≡ W.cols = c.cols-cols.ensures.shape.matrix.width r c.requires.in_rows in
     let is = without_before T xs j c.rows-triangle.ensures.matrix refl (omega (arith, c.requires.fits)) (omega (arith, c.requires.square, c.requires.fits))
     (omega arith) (c.get.ensures.one.0 c.if-get.true) in
-    c.add_tail.ensures
-    ∙ ap (λ (w : Window). showing w (with_row (content w) r (sum_from j (row (content w) r) (row T j)))) c.add_row.ensures
+    c.add_tail-then-get.ensures
+    ∙ ap (λ (w : Window). showing w (with_row (content w) r (sum_from j (row (content w) r) (row T j)))) c.add_tail.ensures
     ∙ row_twice W r (row_sum xs (row T j)) (λ l. sum_from j l (row T j)) (omega (arith, c.cols-cols.ensures.shape.matrix.height, c.requires.in_rows))
     ∙ ap (λ l. showing W (with_row (content W) r l)) is
 
