@@ -1,6 +1,7 @@
 //! PLE and PLUQ in place, with what they may use beside the matrix.
 
 ghost use Rattle.std.specs.Prelude.{◌≡◌, ◌⊎◌, ℕ, ◌<◌, ◌≤◌, length, take, slice_index};
+ghost use Rattle.m4_model.specs.Rank.{ArePivots};
 ghost use Rattle.m4_model.specs.Shapes.{swaps};
 ghost use Rattle.m4_mzd.specs.Reach.{IsReached};
 ghost use Rattle.m4_mzd.specs.Window.{content, showing};
@@ -71,6 +72,9 @@ pub fn pluq<M: AddMul>(
     ensures all { length p.new ≡ length p.old }
     ensures room { length q.new ≡ length q.old }
     ensures rank { result ≤ length q.new }
+    ensures few_rows { result ≤ a.old.rows }
+    ensures columns { AreSwaps a.old.cols (take result q.new) }
+    ensures pivots { ArePivots (content a.old) (take result q.new) }
     ensures factors { HoldsPluq (content a.old) (swaps a.old.rows p.new) (swaps a.old.cols (take result q.new)) result (content a.new) }
     ensures reach { M.limits engine.new ≡ M.limits engine.old }
     ensures tables_k { tables.new.k ≡ tables.old.k }

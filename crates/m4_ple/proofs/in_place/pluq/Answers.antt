@@ -2,7 +2,8 @@ use Rattle.std.proofs.Common.{◌≡◌, ◌≤◌, ◌<◌, ℕ, List, ◌∙�
 use Rattle.m4_model.specs.Matrix.{Matrix}
 use Rattle.m4_model.specs.Shapes.{swaps}
 use Rattle.m4_model.proofs.Gf2Lemmas.{gf2_laws}
-use Rattle.m4_model.proofs.ExchangeLemmas.{rising_room}
+use Rattle.m4_model.proofs.ExchangeLemmas.{rising_room, rising-at_least}
+use Rattle.m4_model.proofs.RankLemmas.{pivots_of_ple}
 use Rattle.m4_mzd.specs.Window.{Window, content, showing}
 use Rattle.m4_ple.specs.Columns.{with_exchanged}
 use Rattle.m4_ple.specs.Held.{HoldsPluq}
@@ -51,3 +52,32 @@ returns-clause-factors g c =
     subst (λ (W : Matrix). HoldsPluq A (swaps A.rows c.ple-rank.new.p) (swaps A.cols q) r W) (sym (ap content c.exchange_columns.ensures))
     (subst (λ (k : ℕ). HoldsPluq A (swaps A.rows c.ple-rank.new.p) (swaps A.cols q) k (with_exchanged q (length q) (content c.ple-rank.new.a))) long
     (pluq_held A (content c.ple-rank.new.a) (swaps A.rows c.ple-rank.new.p) q gf2_laws c.rows-rows.ensures.shape.matrix c.ple-rank.ensures.factors))
+
+pub returns-clause-few_rows : goal.returns-clause-few_rows
+returns-clause-few_rows g c =
+    let held = c.ple-rank.ensures.factors in
+    let within = held.factors.e_form.within in
+    let rows = held.factors.e_shape.rows in
+    let front = length-take c.ple-rank.result c.ple-rank.new.q in
+    let room = c.ple-rank.ensures.rank in
+    omega (arith, within, rows, front, room)
+
+pub returns-clause-columns : goal.returns-clause-columns
+returns-clause-columns g c =
+    let held = c.ple-rank.ensures.factors in
+    let form = held.factors.e_form in
+    let q = take c.ple-rank.result c.ple-rank.new.q in
+    let cols = held.factors.e_shape.cols in
+    let room = rising_room q held.e.cols form.rising form.columns in
+    record {
+      count = omega (arith, room, cols);
+      behind = λ i inside. rising-at_least q i form.rising inside;
+      below = λ i inside. let low = form.columns i inside in omega (arith, low, cols);
+    }
+
+pub returns-clause-pivots : goal.returns-clause-pivots
+returns-clause-pivots g c =
+    let A = content c.args.a.now in
+    let held = c.ple-rank.ensures.factors in
+    let q = take c.ple-rank.result c.ple-rank.new.q in
+    pivots_of_ple A _ q _ held.l held.e gf2_laws c.rows-rows.ensures.shape.matrix held.factors
