@@ -2,3 +2,4 @@ pub mod WordsLemmas
 pub mod RunLemmas
 pub mod StepLemmas
 pub mod ProductLemmas
+mod PartLemmas

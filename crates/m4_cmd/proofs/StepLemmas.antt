@@ -1,6 +1,6 @@
 -- From each step of a run to the next: what a file's bytes give of the file, an operand of the operands, and these of
 -- the job.
-use Rattle.std.proofs.Common.{◌≡◌, ℕ, ◌+◌, ◌^◌, List, [], ◌∷◌, ◌++◌, length, Option, refl, sym, ◌∙◌, subst, arith, inl, inr, append-nil}
+use Rattle.std.proofs.Common.{◌≡◌, ℕ, ◌+◌, ◌^◌, List, [], ◌∷◌, ◌++◌, length, Option, Result, Ok, Err, MatchResult, refl, sym, ◌∙◌, subst, arith, inl, inr, append-nil}
 use Rattle.std.specs.Io.KnownBytes.{Appends}
 use Rattle.m4_model.specs.Matrix.{Matrix}
 use Rattle.m4_model.specs.Text.{Fault, BadAt, PastLimit, IsWithinLimits}
@@ -9,7 +9,7 @@ use Rattle.m4_model.specs.Words.{Job}
 use Rattle.m4_model.specs.Outcome.{Stock, Answer, status_of, can_hold_answer, text_of_answer}
 use Rattle.m4_model.specs.declared.status.Status.{Status}
 use Rattle.m4_model.specs.declared.status.Status.TheVariants.{Done, No, Words, Text, Shape, Limit, Read, Write, Memory}
-use Rattle.m4_io.specs.Outside.{Rose, AppendsFront}
+use Rattle.m4_io.specs.Outside.{Rose, AppendsFront, WritesAll}
 use Rattle.m4_io.specs.Reading.{IsFileOrLong}
 use Rattle.m4_text.specs.Refused.{IsRefusalIn}
 use Rattle.m4_text.proofs.Readers.{reads_short}
@@ -149,3 +149,10 @@ line_written form answer line out status held is writes =
       | inl whole ↦ subst P (sym whole.0) (wrote_whole form answer out (record { held = held; ends = refl; faults = whole.1; taken = subst Q is whole.2 }))
       | inr part ↦ subst P (sym part.0) (record { held = held; faults = part.1; taken = subst R is part.2 })
     ]
+
+-- lines that were written are an answer's
+pub lines_written : {E : Type 0} (form : TextForm) (lines : List ℕ) (out : Output) (written : Result (Unit {0}) E) (status : Status)
+    → WritesAll out.taken_before out.taken_now out.before out.now written lines → MatchResult written (λ _. status ≡ Done) (λ _. status ≡ Write)
+    → WriteGives form (Answer.Lines lines) out status
+lines_written form lines out (Ok done) status writes is = let P : Status → Type 0 = WriteGives form (Answer.Lines lines) out in subst P (sym is) (record { held = tt; ends = refl; faults = writes.kept; taken = writes.taken })
+lines_written form lines out (Err fault) status writes is = let P : Status → Type 0 = WriteGives form (Answer.Lines lines) out in subst P (sym is) (record { held = tt; faults = writes.cause; taken = writes.taken })

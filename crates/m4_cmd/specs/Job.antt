@@ -1,6 +1,6 @@
 -- The commands and jobs of the code, as the definitions see them.
 use Rattle.std.specs.Prelude.{ℕ, List, [], ◌∷◌}
-use Rattle.m4_model.specs.Words.{Command, Mul, Addmul, Add, Transpose, Stack, Augment, Sub, Convert, Rank, Echelon, Inverse, Solve, Kernel, Verb, MulVerb, AddmulVerb, AddVerb, TransposeVerb, StackVerb, AugmentVerb, SubVerb, ConvertVerb, RankVerb, EchelonVerb, InverseVerb, SolveVerb, KernelVerb}
+use Rattle.m4_model.specs.Words.{Command, Mul, Addmul, Add, Transpose, Stack, Augment, Sub, Convert, Rank, Echelon, Inverse, Solve, Kernel, Ple, Pluq, Verb, MulVerb, AddmulVerb, AddVerb, TransposeVerb, StackVerb, AugmentVerb, SubVerb, ConvertVerb, RankVerb, EchelonVerb, InverseVerb, SolveVerb, KernelVerb, PleVerb, PluqVerb}
 use Rattle.m4_model.specs.Words.{Job as Asked}
 use Rattle.m4_cmd.specs.Options.{choices_told}
 use Rattle.m4_cmd.specs.declared.words.Task.{Task}
@@ -23,6 +23,8 @@ verb_told verbs.Echelon = EchelonVerb
 verb_told verbs.Inverse = InverseVerb
 verb_told verbs.Solve = SolveVerb
 verb_told verbs.Kernel = KernelVerb
+verb_told verbs.Ple = PleVerb
+verb_told verbs.Pluq = PluqVerb
 
 -- What a task asks for, the numbers among its operands, and the names of its files.
 abbrev pub command_told : Task → Command
@@ -39,6 +41,8 @@ command_told (tasks.Echelon a) = Echelon
 command_told (tasks.Inverse a) = Inverse
 command_told (tasks.Solve a b) = Solve
 command_told (tasks.Kernel a) = Kernel
+command_told (tasks.Ple a) = Ple
+command_told (tasks.Pluq a) = Pluq
 
 abbrev pub numbers_told : Task → List ℕ
 numbers_told (tasks.Mul a b) = []
@@ -54,6 +58,8 @@ numbers_told (tasks.Echelon a) = []
 numbers_told (tasks.Inverse a) = []
 numbers_told (tasks.Solve a b) = []
 numbers_told (tasks.Kernel a) = []
+numbers_told (tasks.Ple a) = []
+numbers_told (tasks.Pluq a) = []
 
 abbrev pub files_told : Task → List (List ℕ)
 files_told (tasks.Mul a b) = a.now ∷ b.now ∷ []
@@ -69,6 +75,8 @@ files_told (tasks.Echelon a) = a.now ∷ []
 files_told (tasks.Inverse a) = a.now ∷ []
 files_told (tasks.Solve a b) = a.now ∷ b.now ∷ []
 files_told (tasks.Kernel a) = a.now ∷ []
+files_told (tasks.Ple a) = a.now ∷ []
+files_told (tasks.Pluq a) = a.now ∷ []
 
 abbrev pub job_told : Job → Asked
 job_told asked = record { command = command_told asked.task; files = files_told asked.task; choices = choices_told asked.choices }

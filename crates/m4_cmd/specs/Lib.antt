@@ -2,6 +2,7 @@ pub mod Texts
 pub mod Options
 pub mod Progress
 pub mod Job
+pub mod Factors
 pub mod Answer
 pub mod Commands
 pub mod Run

@@ -1,10 +1,12 @@
-ghost use Rattle.std.specs.Prelude.{◌≡◌};
-ghost use Rattle.m4_model.specs.Outcome.{OneMatrix, rank_line};
+ghost use Rattle.std.specs.Prelude.{◌≡◌, MatchResult};
+ghost use Rattle.m4_model.specs.Outcome.{OneMatrix};
 ghost use Rattle.m4_text.specs.Forms.{text_form};
 ghost use Rattle.m4_cmd.specs.Answer.{answer_told};
 ghost use Rattle.m4_cmd.specs.Steps.{WriteGives, WritesLine};
 
-use crate::line::{Line, plain_line, push, push_number};
+use crate::factors::{PleFactors, PluqFactors};
+use crate::factors_text::{write_ple, write_pluq};
+use crate::line::{Line, plain_line, rank_line};
 use m4_io::{Failed, Sink, write_whole};
 use m4_model::Status;
 use m4_mzd::Mzd;
@@ -17,6 +19,10 @@ pub(crate) enum Answer {
     Matrix(Mzd),
     /// A rank.
     Rank(u32),
+    /// A PLE.
+    Ple(PleFactors),
+    /// A PLUQ.
+    Pluq(PluqFactors),
     /// There is no inverse.
     Singular,
     /// There is no solution.
@@ -34,7 +40,9 @@ pub(crate) fn write_answer<O: Sink>(answer: &Answer, form: Form, out: &mut O) ->
 {
     match answer {
         Answer::Matrix(matrix) => write_matrix(matrix, form, out),
-        Answer::Rank(rank) => write_line(&rank_line(*rank), out, Status::Done),
+        Answer::Rank(rank) => write_line(&rank_line(u64::from(*rank)), out, Status::Done),
+        Answer::Ple(factors) => done_if(write_ple(factors, out)),
+        Answer::Pluq(factors) => done_if(write_pluq(factors, out)),
         Answer::Singular => write_line(&plain_line("singular\n"), out, Status::No),
         Answer::NoSolution => write_line(&plain_line("no solution\n"), out, Status::No),
     }
@@ -55,14 +63,14 @@ fn write_line<O: Sink>(line: &Line, out: &mut O, status: Status) -> Status
     }
 }
 
-/// The line of a rank.
-fn rank_line(rank: u32) -> Line
-    ensures { result.bytes ≡ rank_line rank }
+/// The status of an answer once its text was written.
+fn done_if(written: Result<(), WriteFault>) -> Status
+    ensures { MatchResult written (λ _. result ≡ Status.Done) (λ _. result ≡ Status.Write) }
 {
-    let mut line = plain_line("rank ");
-    push_number(&mut line, u64::from(rank));
-    push(&mut line, "\n");
-    line
+    match written {
+        Ok(()) => Status::Done,
+        Err(WriteFault::Failed) => Status::Write,
+    }
 }
 
 /// Writes the text of one matrix in this form, where the form can hold it.

@@ -12,6 +12,7 @@ ghost use Rattle.m4_cmd.specs.Steps.{AnswerFails, EndsUnwritten, IsJobAnswer};
 
 use crate::answer::Answer;
 use crate::choices::Choices;
+use crate::factors::{ple_answer, pluq_answer};
 use crate::operand::{read_operand, read_three, read_two};
 use crate::product::{addmul_answer, mul_answer};
 use crate::shape::{add_answer, augment_answer, stack_answer, sub_answer, transpose_answer};
@@ -32,6 +33,8 @@ pub(crate) enum OfOne {
     Echelon,
     Inverse,
     Kernel,
+    Ple,
+    Pluq,
 }
 
 /// A command on two matrices.
@@ -69,6 +72,8 @@ pub(crate) fn answer_of<S: Shelf>(alloc: Global, job: &Job, shelf: &mut S) -> Re
         Task::Inverse { a } => of_one(alloc, shelf, choices, OfOne::Inverse, a),
         Task::Solve { a, b } => of_two(alloc, shelf, choices, OfTwo::Solve, a, b),
         Task::Kernel { a } => of_one(alloc, shelf, choices, OfOne::Kernel, a),
+        Task::Ple { a } => of_one(alloc, shelf, choices, OfOne::Ple, a),
+        Task::Pluq { a } => of_one(alloc, shelf, choices, OfOne::Pluq, a),
     }
 }
 
@@ -105,6 +110,8 @@ fn one_answer(alloc: Global, choices: Choices, command: OfOne, a: Mzd) -> Result
         OfOne::Echelon => echelon_answer(alloc, choices, a),
         OfOne::Inverse => inverse_answer(alloc, choices, &a),
         OfOne::Kernel => kernel_answer(alloc, choices, &a),
+        OfOne::Ple => ple_answer(alloc, choices, a),
+        OfOne::Pluq => pluq_answer(alloc, choices, a),
     }
 }
 

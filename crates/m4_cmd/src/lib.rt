@@ -5,6 +5,8 @@ mod answer;
 mod choices;
 mod commands;
 mod context;
+mod factors;
+mod factors_text;
 mod fault_line;
 mod gate;
 mod line;

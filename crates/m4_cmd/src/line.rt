@@ -1,6 +1,7 @@
 //! Short lines, put together on the stack.
 
 ghost use Rattle.std.specs.Prelude.{◌≡◌, ◌+◌, ◌≤◌, ◌++◌, length, decimal};
+ghost use Rattle.m4_model.specs.Outcome.{rank_line};
 
 use arrayvec::ArrayString;
 
@@ -17,6 +18,16 @@ pub(crate) fn plain_line(text: &str) -> Line
 {
     let mut line = Line::new();
     push(&mut line, text);
+    line
+}
+
+/// The line of a rank.
+pub(crate) fn rank_line(rank: u64) -> Line
+    ensures { result.bytes ≡ rank_line rank }
+{
+    let mut line = plain_line("rank ");
+    push_number(&mut line, rank);
+    push(&mut line, "\n");
     line
 }
 

@@ -81,6 +81,14 @@ pub enum Task<'a> {
     Kernel {
         a: &'a str,
     },
+    /// A PLE: the rows of the matrix, in some order, are those of L E.
+    Ple {
+        a: &'a str,
+    },
+    /// A PLUQ: the entries of the matrix, rows and columns in some order, are those of L U.
+    Pluq {
+        a: &'a str,
+    },
 }
 
 /// What the words ask for.
@@ -106,6 +114,8 @@ pub(crate) enum Verb {
     Inverse,
     Solve,
     Kernel,
+    Ple,
+    Pluq,
 }
 
 /// The job that the words after the program's name ask for. It takes no memory.
@@ -152,6 +162,8 @@ fn verb_of(word: &str) -> Option<Verb>
         "inverse" => Some(Verb::Inverse),
         "solve" => Some(Verb::Solve),
         "kernel" => Some(Verb::Kernel),
+        "ple" => Some(Verb::Ple),
+        "pluq" => Some(Verb::Pluq),
         _ => None,
     }
 }
@@ -220,6 +232,12 @@ fn task_of<'a>(
             b: next_name(words, progress)?,
         }),
         Verb::Kernel => Ok(Task::Kernel {
+            a: next_name(words, progress)?,
+        }),
+        Verb::Ple => Ok(Task::Ple {
+            a: next_name(words, progress)?,
+        }),
+        Verb::Pluq => Ok(Task::Pluq {
             a: next_name(words, progress)?,
         }),
     }

@@ -2,7 +2,7 @@
 use Rattle.std.proofs.Common.{◌≡◌, ℕ, List, [], ◌∷◌, refl, Result, Ok, Err, codes}
 use Rattle.std.specs.Fmt.{digits}
 use Rattle.m4_model.specs.Texts.{TextForm, Headed, Bare, Jcf}
-use Rattle.m4_model.specs.Words.{Algo, Plain, Table, Command, Mul, Addmul, Sub, Convert, Job, job, understand}
+use Rattle.m4_model.specs.Words.{Algo, Plain, Table, Command, Mul, Addmul, Sub, Convert, Ple, Pluq, Job, job, understand}
 
 -- the job of a command on these files, with these forms
 asks : Command → List (List ℕ) → TextForm → TextForm → Result Job ℕ
@@ -28,6 +28,14 @@ a_name_with_equals_sign = refl
 corners_of_a_part : job (codes "sub" ∷ codes "A" ∷ codes "0" ∷ codes "1" ∷ codes "2" ∷ codes "3" ∷ []) ≡ asks (Sub 0 1 2 3) (codes "A" ∷ []) Headed Headed
 unfolding job understand digits asks
 corners_of_a_part = refl
+
+factors_of_one : job (codes "ple" ∷ codes "A" ∷ []) ≡ asks Ple (codes "A" ∷ []) Headed Headed
+unfolding job understand digits asks
+factors_of_one = refl
+
+factors_with_an_option : job (codes "pluq" ∷ codes "A" ∷ codes "--out=bare" ∷ []) ≡ asks Pluq (codes "A" ∷ []) Headed Bare
+unfolding job understand digits asks
+factors_with_an_option = refl
 
 options_of_products : job (codes "mul" ∷ codes "A" ∷ codes "--algo=plain" ∷ codes "B" ∷ codes "--k=8" ∷ codes "--tables=1" ∷ [])
     ≡ Ok (record { command = Mul; files = codes "A" ∷ codes "B" ∷ []; choices = record { algo = Plain; k = 8; tables = 1; from = Headed; into = Headed } })

@@ -1,12 +1,13 @@
 -- What a run of the program has to answer: its status and its text, from its words and the files at hand.
-use Rattle.std.specs.Prelude.{◌≡◌, ℕ, ◌+◌, ◌%◌, ◌≤◌, ◌⊎◌, List, [], ◌∷◌, ◌++◌, length, Option, Some, None, option_map, find, bytes_eq, Ok, Err, codes, decimal}
+use Rattle.std.specs.Prelude.{◌≡◌, ℕ, ◌+◌, ◌%◌, ◌≤◌, ◌⊎◌, List, [], ◌∷◌, ◌++◌, length, Option, Some, None, option_map, flat_map, find, bytes_eq, Ok, Err, codes, decimal}
 use Rattle.m4_model.specs.Matrix.{Matrix, added, product}
 use Rattle.m4_model.specs.Shapes.{transposed, above, beside, cut, replace}
 use Rattle.m4_model.specs.Rank.{IsRank}
 use Rattle.m4_model.specs.Forms.{IsReduced, IsInverse, Singular, IsSolution, NoSolution, IsKernel}
-use Rattle.m4_model.specs.Text.{Fault, BadAt, PastLimit, IsWithinLimits}
+use Rattle.m4_model.specs.Factors.{IsPle, IsPluq}
+use Rattle.m4_model.specs.Text.{Fault, BadAt, PastLimit, IsWithinLimits, text}
 use Rattle.m4_model.specs.Texts.{TextForm, can_hold, text_as, ReadsAs, RefusalAs}
-use Rattle.m4_model.specs.Words.{Command, Mul, Addmul, Add, Transpose, Stack, Augment, Sub, Convert, Rank, Echelon, Inverse, Solve, Kernel, Job, job}
+use Rattle.m4_model.specs.Words.{Command, Mul, Addmul, Add, Transpose, Stack, Augment, Sub, Convert, Rank, Echelon, Inverse, Solve, Kernel, Ple, Pluq, Job, job}
 use Rattle.m4_model.specs.declared.status.Status.{Status}
 use Rattle.m4_model.specs.declared.status.Status.TheVariants.{Done, No, Words, Text, Shape, Limit, Read, Write, Memory}
 
@@ -76,10 +77,12 @@ Fits Echelon (A ∷ []) = Unit {0}
 Fits Inverse (A ∷ []) = A.cols ≡ A.rows
 Fits Solve (A ∷ B ∷ []) = A.rows ≡ B.rows
 Fits Kernel (A ∷ []) = Unit {0}
+Fits Ple (A ∷ []) = Unit {0}
+Fits Pluq (A ∷ []) = Unit {0}
 Fits command other = ⊥
 
 -- The shape of the answer is within the limits. An answer no larger than an operand always is. The shape of a solution
--- counts also where there is none.
+-- counts also where there is none, and that of the factor L beside the other factor, which is as large as the operand.
 abbrev pub InBounds : Command → List Matrix → Type 0
 InBounds Mul (A ∷ B ∷ []) = IsWithinLimits A.rows B.cols
 InBounds Transpose (A ∷ []) = IsWithinLimits A.cols A.rows
@@ -87,6 +90,8 @@ InBounds Stack (A ∷ B ∷ []) = IsWithinLimits (A.rows + B.rows) A.cols
 InBounds Augment (A ∷ B ∷ []) = IsWithinLimits A.rows (A.cols + B.cols)
 InBounds Solve (A ∷ B ∷ []) = IsWithinLimits A.cols B.cols
 InBounds Kernel (A ∷ []) = (K : Matrix) × IsKernel K A × IsWithinLimits K.rows K.cols
+InBounds Ple (A ∷ []) = IsWithinLimits A.rows A.rows
+InBounds Pluq (A ∷ []) = IsWithinLimits A.rows A.rows
 InBounds command other = Unit {0}
 
 -- What a command answers: a matrix, some lines of text, or that there is no answer, with the line that says so.
@@ -106,6 +111,12 @@ IsMatrixWith property (OneMatrix R) = property R
 IsMatrixWith property (Lines lines) = ⊥
 IsMatrixWith property (NoAnswer line) = ⊥
 
+-- The answer is some lines with this property.
+abbrev pub AreLinesWith : (List ℕ → Type 0) → Answer → Type 0
+AreLinesWith property (OneMatrix R) = ⊥
+AreLinesWith property (Lines lines) = property lines
+AreLinesWith property (NoAnswer line) = ⊥
+
 -- The answer is a matrix with this property, or that there is none, for this cause and with this line.
 abbrev pub IsMatrixOrNone : (Matrix → Type 0) → Type 0 → List ℕ → Answer → Type 0
 IsMatrixOrNone property cause line (OneMatrix R) = property R
@@ -116,7 +127,39 @@ IsMatrixOrNone property cause line (NoAnswer said) = cause × (said ≡ line)
 abbrev pub rank_line : ℕ → List ℕ
 rank_line r = codes "rank " ++ (decimal r ++ codes "\n")
 
--- This is the command's answer.
+-- Numbers in digits, a space before each.
+abbrev pub numbers_text : List ℕ → List ℕ
+numbers_text numbers = flat_map (λ n. codes " " ++ decimal n) numbers
+
+-- A line of a name and numbers.
+abbrev pub numbers_line : List ℕ → List ℕ → List ℕ
+numbers_line name numbers = name ++ (numbers_text numbers ++ codes "\n")
+
+-- The text of factors of a matrix: a line with the rank, one with the order of the rows, one that tells of columns, and
+-- the two factors as headed texts.
+abbrev pub factors_text : ℕ → List ℕ → List ℕ → Matrix → Matrix → List ℕ
+factors_text r p columns L E = (rank_line r ++ (numbers_line (codes "rows") p ++ columns)) ++ (text L ++ text E)
+
+-- The text of a PLE of A, which tells the pivots.
+pub record IsPleText (A : Matrix) (lines : List ℕ) : Type 0 where
+  pub p : List ℕ
+  pub q : List ℕ
+  pub l : Matrix
+  pub e : Matrix
+  pub factors : IsPle A p q (length q) l e
+  pub text : lines ≡ factors_text (length q) p (numbers_line (codes "pivots") q) l e
+
+-- The text of a PLUQ of A, which tells the order of the columns.
+pub record IsPluqText (A : Matrix) (lines : List ℕ) : Type 0 where
+  pub p : List ℕ
+  pub c : List ℕ
+  pub r : ℕ
+  pub l : Matrix
+  pub u : Matrix
+  pub factors : IsPluq A p c r l u
+  pub text : lines ≡ factors_text r p (numbers_line (codes "columns") c) l u
+
+-- This is the command's answer. Of a PLE and a PLUQ, whose factors are not the only ones, some may stand in the text.
 abbrev pub IsAnswer : Command → List Matrix → Answer → Type 0
 IsAnswer Mul (A ∷ B ∷ []) answer = answer ≡ OneMatrix (product A B)
 IsAnswer (Addmul row col) (C ∷ A ∷ B ∷ []) answer = answer ≡ OneMatrix (with_product C row col A B)
@@ -131,6 +174,8 @@ IsAnswer Echelon (A ∷ []) answer = IsMatrixWith (λ R. IsReduced R A) answer
 IsAnswer Inverse (A ∷ []) answer = IsMatrixOrNone (λ X. IsInverse X A) (Singular A) (codes "singular\n") answer
 IsAnswer Solve (A ∷ B ∷ []) answer = IsMatrixOrNone (λ X. IsSolution X A B) (NoSolution A B) (codes "no solution\n") answer
 IsAnswer Kernel (A ∷ []) answer = IsMatrixWith (λ K. IsKernel K A) answer
+IsAnswer Ple (A ∷ []) answer = AreLinesWith (IsPleText A) answer
+IsAnswer Pluq (A ∷ []) answer = AreLinesWith (IsPluqText A) answer
 IsAnswer command other answer = ⊥
 
 -- The status of an answer.

@@ -20,6 +20,8 @@ pub data Command : Type 0 where
   Inverse : Command
   Solve : Command
   Kernel : Command
+  Ple : Command
+  Pluq : Command
 
 -- How products are computed: row by row, or by tables. The answer is the same.
 pub data Algo : Type 0 where
@@ -56,6 +58,8 @@ pub data Verb : Type 0 where
   InverseVerb : Verb
   SolveVerb : Verb
   KernelVerb : Verb
+  PleVerb : Verb
+  PluqVerb : Verb
 
 -- The verb that a word is.
 abbrev pub verb_of : List ℕ → Option Verb
@@ -73,6 +77,8 @@ verb_of word =
     else if bytes_eq word (codes "inverse") then Some InverseVerb
     else if bytes_eq word (codes "solve") then Some SolveVerb
     else if bytes_eq word (codes "kernel") then Some KernelVerb
+    else if bytes_eq word (codes "ple") then Some PleVerb
+    else if bytes_eq word (codes "pluq") then Some PluqVerb
     else None
 
 -- What stands in a place behind the verb: the name of a file, or a number.
@@ -95,6 +101,8 @@ kinds_of EchelonVerb = FileName ∷ []
 kinds_of InverseVerb = FileName ∷ []
 kinds_of SolveVerb = FileName ∷ FileName ∷ []
 kinds_of KernelVerb = FileName ∷ []
+kinds_of PleVerb = FileName ∷ []
+kinds_of PluqVerb = FileName ∷ []
 
 -- The command of a verb with its numbers, which are as many as its places have.
 abbrev pub command_of : Verb → List ℕ → Option Command
@@ -111,6 +119,8 @@ command_of EchelonVerb [] = Some Echelon
 command_of InverseVerb [] = Some Inverse
 command_of SolveVerb [] = Some Solve
 command_of KernelVerb [] = Some Kernel
+command_of PleVerb [] = Some Ple
+command_of PluqVerb [] = Some Pluq
 command_of verb numbers = None
 
 -- The number that a word is: it is in decimal, as `0`, or a digit from 1 to 9 and at most eight more.

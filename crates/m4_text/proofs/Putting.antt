@@ -4,7 +4,6 @@ use Rattle.std.proofs.lemmas.List.{length-map, map-append, get_or-map, take_more
 use Rattle.std.proofs.lemmas.List.FromFn.{length-map-range_with_len, get_or-map-range_with_len}
 use Rattle.std.specs.Int.{bit_at}
 use Rattle.std.proofs.lemmas.List.Concat.{flat_map-append}
-use Rattle.m4_model.specs.Matrix.{Matrix, row}
 use Rattle.m4_io.specs.Outside.{WritesAll}
 use Rattle.m4_io.specs.declared.failed.Failed.{Failed}
 use Rattle.m4_io.proofs.Writing.{writes_nothing, writes_both, writes_stopped}
@@ -122,21 +121,21 @@ put_end_fails {old} {new = new} {before} {now = now} {result = result} {e = e} {
     subst (λ r. WritesAll old new before now r text) (sym is)
     (subst (WritesAll {T = Unit {0}} old new before now (Err d)) (append-nil text) (writes_stopped old new before now e d text [] whole))
 
--- the rows that are put, and one more, by the lines of rows
-module _ (lined : List ℕ → List ℕ) (M : Matrix) (r : ℕ) (inside : r < length M.entries) where
-  pub rows_put : flat_map lined (take (r + 1) M.entries) ≡ flat_map lined (take r M.entries) ++ lined (row M r)
-  rows_put =
-      ap (λ (l : List (List ℕ)). flat_map lined l) (take_more M.entries r [] inside)
-      ∙ sym (flat_map_more lined [] (take r M.entries) (row M r))
+-- what is put of a list's elements one by one, and one more
+module _ {X : Type 0} (written : X → List ℕ) (xs : List X) (d : X) (r : ℕ) (inside : r < length xs) where
+  pub more_put : flat_map written (take (r + 1) xs) ≡ flat_map written (take r xs) ++ written (get_or xs r d)
+  more_put =
+      ap (λ (l : List X). flat_map written l) (take_more xs r d inside)
+      ∙ sym (flat_map_more written [] (take r xs) (get_or xs r d))
 
   -- and the rest of the text
-  pub rows_left : flat_map lined M.entries ≡ (flat_map lined (take r M.entries) ++ lined (row M r)) ++ flat_map lined (drop (r + 1) M.entries)
-  rows_left =
-      let front = take (r + 1) M.entries in
-      let back = drop (r + 1) M.entries in
-      ap (λ (l : List (List ℕ)). flat_map lined l) (sym (take-append-drop (r + 1) M.entries))
-      ∙ flat_map-append lined front back
-      ∙ ap (λ l. l ++ flat_map lined back) rows_put
+  pub more_left : flat_map written xs ≡ (flat_map written (take r xs) ++ written (get_or xs r d)) ++ flat_map written (drop (r + 1) xs)
+  more_left =
+      let front = take (r + 1) xs in
+      let back = drop (r + 1) xs in
+      ap (λ (l : List X). flat_map written l) (sym (take-append-drop (r + 1) xs))
+      ∙ flat_map-append written front back
+      ∙ ap (λ l. l ++ flat_map written back) more_put
 
 -- the digits of a row up to a word, and those of that word
 module _ (entries : List ℕ) (w word count : ℕ) (inside : 64 * w < length entries) (many : count ≡ min (length entries - 64 * w) 64)

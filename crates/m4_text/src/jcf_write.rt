@@ -1,4 +1,4 @@
-ghost use Rattle.std.specs.Prelude.{◌≡◌, ◌↔◌, IsTrue, ◌<◌, ◌≤◌, ◌∷◌, decimal, if◌then◌else◌, length};
+ghost use Rattle.std.specs.Prelude.{◌≡◌, ◌↔◌, IsTrue, ◌<◌, ◌≤◌, if◌then◌else◌, length};
 ghost use Rattle.m4_model.specs.Matrix.{row};
 ghost use Rattle.m4_model.specs.Jcf.{jcf_text, jcf_header, jcf_lines, line_of_columns, nonzero_columns, nonzeros, IsZeroRow};
 ghost use Rattle.m4_io.specs.Outside.{WritesAll};
@@ -6,7 +6,6 @@ ghost use Rattle.m4_text.specs.Pending.{Puts};
 
 use crate::WriteFault;
 use crate::pending::Pending;
-use itoa::Buffer;
 use m4_io::{Failed, Sink};
 use m4_mzd::Mzd;
 
@@ -53,7 +52,7 @@ fn put_columns<O: Sink>(m: &Mzd, r: u32, pending: &mut Pending, sink: &mut O) ->
     let mut first = true;
     for c in 0..m.cols() {
         if m.get(r, c) {
-            put_column(byte_before(first), c + 1, pending, sink)?;
+            pending.put_behind(byte_before(first), c + 1, sink)?;
             first = false;
         }
     }
@@ -69,21 +68,6 @@ fn byte_before(first: bool) -> u8
     ensures { result ≡ (if first then 45 else 32) }
 {
     if first { b'-' } else { b' ' }
-}
-
-/// Puts the number of a column, behind this byte.
-fn put_column<O: Sink>(
-    before: u8,
-    column: u32,
-    pending: &mut Pending,
-    sink: &mut O,
-) -> Result<(), Failed>
-    ensures { Puts (O.taken sink.old) (O.taken sink.new) (O.faults sink.old) (O.faults sink.new)
-        pending.old pending.new result (before ∷ decimal column) }
-{
-    let mut buffer = Buffer::new();
-    pending.put(&[before], sink)?;
-    pending.put(buffer.format(column).as_bytes(), sink)
 }
 
 /// How many entries of the matrix are 1.

@@ -7,7 +7,8 @@
 //!   counted from 1, a minus sign standing before each that begins a row.
 //!
 //! `read_as` reads a whole text, and `Reader` one in pieces; both tell the exact place where one goes wrong. `write_as`
-//! writes the one text of a matrix, where `can_write` says that the form can hold it.
+//! writes the one text of a matrix, where `can_write` says that the form can hold it. `write_numbers` writes a line of
+//! numbers.
 #![tactic(auto)]
 
 mod bare;
@@ -19,6 +20,7 @@ mod jcf_read;
 mod jcf_write;
 mod laws;
 mod limits;
+mod number_line;
 mod pending;
 mod read;
 mod reader;
@@ -31,6 +33,7 @@ pub use fault::{TextFault, WriteFault};
 pub use form::{Form, can_write, read_as, write_as};
 pub use laws::{law_read, law_read_back, law_read_or_refused, law_text_len};
 pub use limits::within_limits;
+pub use number_line::write_numbers;
 pub use read::read_text;
 pub use reader::Reader;
 pub use write::write_text;

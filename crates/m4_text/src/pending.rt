@@ -85,6 +85,21 @@ impl Pending {
         self.put(&[ending], sink)
     }
 
+    /// Puts the number in decimal, behind the byte before it.
+    pub fn put_behind<O: Sink>(
+        &mut self,
+        before: u8,
+        number: u32,
+        sink: &mut O,
+    ) -> Result<(), Failed>
+        ensures { Puts (O.taken sink.old) (O.taken sink.new) (O.faults sink.old) (O.faults sink.new)
+            self.old self.new result (before ∷ decimal number) }
+    {
+        let mut buffer = Buffer::new();
+        self.put(&[before], sink)?;
+        self.put(buffer.format(number).as_bytes(), sink)
+    }
+
     /// Writes the bytes that wait.
     pub fn finish<O: Sink>(&self, sink: &mut O) -> Result<(), Failed>
         ensures { WritesAll (O.taken sink.old) (O.taken sink.new) (O.faults sink.old) (O.faults sink.new) result

@@ -7,7 +7,7 @@ use Rattle.m4_text.specs.Pending.{Puts}
 use Rattle.m4_text.proofs.Putting.{puts_nothing, piece_put, piece_fails}
 use Rattle.m4_text.proofs.Columns.{columns_so_far, columns_begin, columns_end, columns_text, column_passed, column_found, column_written, line_at, line_ended}
 use Rattle.m4_text.proofs.jcf_write.put_columns.Goals as goal
-use Rattle.m4_text.proofs.jcf_write.put_columns.Goals.{then-get+in_ok-put_column, else-get}
+use Rattle.m4_text.proofs.jcf_write.put_columns.Goals.{then-get+in_ok-put_behind, else-get}
 
 pub loop-c-init : goal.loop-c-init
 loop-c-init g c =
@@ -18,8 +18,8 @@ loop-c-init g c =
       wrote = subst (Puts _ _ _ _ _ _ (Ok tt)) (sym (ap columns_text begin)) (puts_nothing _ _ _);
     }
 
-pub returns-in_err-put_column : goal.returns-in_err-put_column
-returns-in_err-put_column g c =
+pub returns-in_err-put_behind : goal.returns-in_err-put_behind
+returns-in_err-put_behind g c =
     let p = err_from_is_err_and c.from_residual.result c.from_residual.ensures.1 in
     let entries = row c.args.m.now c.args.r in
     let shape = c.cols-c-end.ensures in
@@ -27,7 +27,7 @@ returns-in_err-put_column g c =
     let inside : now.c < length entries = omega (arith, shape.matrix.width c.args.r c.requires, shape.cols) in
     let one : at c.args.m.now c.args.r now.c ≡ 1 = c.get.ensures.value ∙ ap (λ b. if b then 1 else 0) c.if-get.true in
     let whole = line_at entries now.c now.first c.byte_before.result c.byte_before.ensures inside one now.invariant.none now.invariant.some in
-    piece_fails _ whole now.invariant.wrote c.in_err-put_column.ensures p.1
+    piece_fails _ whole now.invariant.wrote c.in_err-put_behind.ensures p.1
 
 pub loop-c-preserved : goal.loop-c-preserved
 loop-c-preserved g c =
@@ -36,7 +36,7 @@ loop-c-preserved g c =
     let now = c.loop-c in
     let inside : now.c < length entries = omega (arith, shape.matrix.width c.args.r c.requires, shape.cols) in
     elim c.if-get.branch [
-      | then-get+in_ok-put_column w ↦
+      | then-get+in_ok-put_behind w ↦
           let one : at c.args.m.now c.args.r now.c ≡ 1 = c.get.ensures.value ∙ ap (λ b. if b then 1 else 0) w.if-get.true in
           let found = column_found entries now.c inside one in
           let some : 0 < length (columns_so_far entries (now.c + 1)) =
@@ -47,7 +47,7 @@ loop-c-preserved g c =
             none = λ e. absurd (true≢false (sym e ∙ w.first-is));
             some = λ _. some;
             wrote = subst₂ (λ s p. Puts (g.O.Sink.taken c.args.sink.now) (g.O.Sink.taken s) (g.O.Sink.faults c.args.sink.now) (g.O.Sink.faults s) c.args.pending.now p (Ok tt) (columns_text (columns_so_far entries (now.c + 1))))
-                (sym w.sink-is) (sym w.pending-is) (piece_put {result = Ok tt} parts now.invariant.wrote w.in_ok-put_column.ensures);
+                (sym w.sink-is) (sym w.pending-is) (piece_put {result = Ok tt} parts now.invariant.wrote w.in_ok-put_behind.ensures);
           }
       | else-get w ↦
           let zero : at c.args.m.now c.args.r now.c ≡ 0 = c.get.ensures.value ∙ ap (λ b. if b then 1 else 0) w.if-get.false in

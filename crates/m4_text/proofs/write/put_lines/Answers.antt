@@ -3,7 +3,7 @@ use Rattle.std.proofs.lemmas.Result.{err_from_is_err_and}
 use Rattle.m4_model.specs.Matrix.{row}
 use Rattle.m4_model.specs.Text.{line}
 use Rattle.m4_text.specs.Reading.{digits_from}
-use Rattle.m4_text.proofs.Putting.{piece_put, piece_fails, rows_put, rows_left}
+use Rattle.m4_text.proofs.Putting.{piece_put, piece_fails, more_put, more_left}
 use Rattle.m4_text.proofs.write.put_lines.Goals as goal
 
 pub returns-in_err-put_row : goal.returns-in_err-put_row
@@ -15,7 +15,7 @@ returns-in_err-put_row g c =
     let front = flat_map line (take r m.entries) in
     let back = flat_map line (drop (r + 1) m.entries) in
     piece_fails (10 ∷ back)
-    (rows_left line m r below ∙ ap (λ l. l ++ back) (sym (append_assoc front (digits_from (row m r)) (10 ∷ []))) ∙ append_assoc (front ++ digits_from (row m r)) (10 ∷ []) back)
+    (more_left line m.entries [] r below ∙ ap (λ l. l ++ back) (sym (append_assoc front (digits_from (row m r)) (10 ∷ []))) ∙ append_assoc (front ++ digits_from (row m r)) (10 ∷ []) back)
     c.loop-r.invariant c.in_err-put_row.ensures p.1
 
 pub returns-in_err-put : goal.returns-in_err-put
@@ -27,7 +27,7 @@ returns-in_err-put g c =
     let front = flat_map line (take r m.entries) in
     let back = flat_map line (drop (r + 1) m.entries) in
     piece_fails back
-    (rows_left line m r below ∙ ap (λ l. l ++ back) (sym (append_assoc front (digits_from (row m r)) (10 ∷ []))))
+    (more_left line m.entries [] r below ∙ ap (λ l. l ++ back) (sym (append_assoc front (digits_from (row m r)) (10 ∷ []))))
     (piece_put {result = Ok tt} refl c.loop-r.invariant c.in_ok-put_row.ensures) c.in_err-put.ensures p.1
 
 pub loop-r-preserved : goal.loop-r-preserved
@@ -35,4 +35,4 @@ loop-r-preserved g c =
     let m = c.args.m.now in
     let r = c.loop-r.r in
     let below : r < length m.entries = omega (arith, c.rows-r-end.ensures.matrix.height, c.rows-r-end.ensures.rows) in
-    piece_put {result = Ok tt} (rows_put line m r below) c.loop-r.invariant (piece_put {result = Ok tt} refl c.in_ok-put_row.ensures c.in_ok-put.ensures)
+    piece_put {result = Ok tt} (more_put line m.entries [] r below) c.loop-r.invariant (piece_put {result = Ok tt} refl c.in_ok-put_row.ensures c.in_ok-put.ensures)

@@ -1,12 +1,12 @@
 use Rattle.std.proofs.Common.{◌∷◌, decimal, ap, ◌∙◌, sym, refl}
 use Rattle.std.proofs.lemmas.Result.{err_from_is_err_and}
 use Rattle.m4_text.proofs.Putting.{front_fails, piece_put}
-use Rattle.m4_text.proofs.jcf_write.put_column.Goals as goal
+use Rattle.m4_text.proofs.pending.Pending.put_behind.Goals as goal
 
 pub returns-in_err-put : goal.returns-in_err-put
 returns-in_err-put g c =
     let p = err_from_is_err_and c.from_residual.result c.from_residual.ensures.1 in
-    front_fails (decimal c.args.column) refl c.in_err-put.ensures p.1
+    front_fails (decimal c.args.number) refl c.in_err-put.ensures p.1
 
 pub returns : goal.returns
 returns g c =
