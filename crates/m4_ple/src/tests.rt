@@ -1,10 +1,10 @@
-//! A PLE in place and its factors, on a matrix whose L is not the identity.
+//! A PLE in place, on a window too, and the factors that stand there.
 
-ghost use Rattle.std.specs.Prelude.{◌≡◌, IfOk};
+ghost use Rattle.std.specs.Prelude.{◌≡◌, ◌≤◌, ◌^◌, IfOk};
 
 use crate::{ple_factors, ple_plain, pluq_factors};
 use m4_model::NoMemory;
-use m4_mzd::Mzd;
+use m4_mzd::{Mzd, Rect};
 use std::alloc::Global;
 use std::test::Fail;
 
@@ -48,5 +48,43 @@ fn factors_of_a_ple(rt: HostRuntime) -> Result<(), Fail> {
     let upper = pluq_factors(alloc, &sample(alloc)?.all(), 1)?;
     assert_eq!(rt; numbers(&upper.l), [0b001, 0b010, 0b100]);
     assert_eq!(rt; numbers(&upper.e), [0b010, 0b000, 0b000]);
+    Ok(())
+}
+
+// A matrix of ones.
+fn ones(alloc: Global, rows: u32, cols: u32) -> Result<Mzd, NoMemory>
+    requires few_rows { rows ≤ 2 ^ 24 }
+    requires few_cols { cols ≤ 2 ^ 24 }
+    ensures { IfOk result (λ m. (m.rows ≡ rows) × (m.cols ≡ cols)) }
+{
+    let mut m = Mzd::zeros(alloc, rows, cols)?;
+    for r in 0..rows {
+        for c in 0..cols {
+            m.put(r, c, true);
+        }
+    }
+    Ok(m)
+}
+
+#[test]
+fn ple_of_a_window(rt: HostRuntime) -> Result<(), Fail> {
+    let mut m = ones(rt.alloc(), 5, 200)?;
+    let mut p = [7u32; 3];
+    let mut q = [7u32; 3];
+    let (mut part, around) = m.win_mut(Rect {
+        r0: 1,
+        c0: 64,
+        r1: 4,
+        c1: 130,
+    });
+    let rank = ple_plain(&mut part, &mut p, &mut q);
+    m.put_win(part, around);
+    assert_eq!(rt; rank, 1);
+    for r in 0..m.rows() {
+        for c in 0..m.cols() {
+            let cleared = 2 <= r && r < 4 && 65 <= c && c < 130;
+            assert_eq!(rt; m.get(r, c), !cleared, "{r} {c}");
+        }
+    }
     Ok(())
 }
