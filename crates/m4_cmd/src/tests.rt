@@ -1,6 +1,9 @@
 //! Runs over files and sinks in memory, with what they end with.
 ghost use Rattle.std.specs.Prelude.{◌<◌};
 
+mod questions;
+mod random;
+
 use crate::{MemShelf, MemSink, OpenGate, Status, run};
 use m4_model::NoMemory;
 use std::alloc::{AllocError, Global};
@@ -444,186 +447,23 @@ fn parts(rt: HostRuntime) -> Result<(), Fail> {
     Ok(())
 }
 
-/// What is asked about matrices, the texts of the operands, the status and the text of the answer.
-const QUESTIONS: [(&[&str], &str, &str, Status, &str); 20] = [
-    (&["rank", "A"], "gf2 0 5\n", "", Status::Done, "rank 0\n"),
-    (
-        &["rank", "A", "--out=jcf"],
-        "gf2 3 3\n011\n010\n001\n",
-        "",
-        Status::Done,
-        "rank 2\n",
-    ),
-    (
-        &["rank", "A"],
-        "gf2 2 2\n11\n0",
-        "",
-        Status::Text { operand: 1, at: 12 },
-        "",
-    ),
-    (
-        &["echelon", "A"],
-        "gf2 3 3\n011\n010\n000\n",
-        "",
-        Status::Done,
-        "gf2 3 3\n010\n001\n000\n",
-    ),
-    (
-        &["inverse", "A"],
-        "gf2 2 2\n11\n01\n",
-        "",
-        Status::Done,
-        "gf2 2 2\n11\n01\n",
-    ),
-    (
-        &["inverse", "A"],
-        "gf2 2 2\n11\n11\n",
-        "",
-        Status::No,
-        "singular\n",
-    ),
-    (
-        &["inverse", "A", "--out=jcf"],
-        "gf2 2 2\n11\n11\n",
-        "",
-        Status::No,
-        "singular\n",
-    ),
-    (
-        &["inverse", "A"],
-        "gf2 2 3\n110\n011\n",
-        "",
-        Status::Shape,
-        "",
-    ),
-    (
-        &["inverse", "A"],
-        "gf2 0 0\n",
-        "",
-        Status::Done,
-        "gf2 0 0\n",
-    ),
-    (
-        &["solve", "A", "B"],
-        "gf2 2 2\n11\n00\n",
-        "gf2 2 1\n1\n0\n",
-        Status::Done,
-        "gf2 2 1\n1\n0\n",
-    ),
-    (
-        &["solve", "A", "B"],
-        "gf2 2 2\n11\n00\n",
-        "gf2 2 1\n1\n1\n",
-        Status::No,
-        "no solution\n",
-    ),
-    (
-        &["solve", "A", "B"],
-        "gf2 1 1\n0\n",
-        "gf2 1 0\n\n",
-        Status::Done,
-        "gf2 1 0\n\n",
-    ),
-    (
-        &["solve", "A", "B"],
-        "gf2 1 1\n0\n",
-        "gf2 2 0\n\n\n",
-        Status::Shape,
-        "",
-    ),
-    (&["solve", "A"], "gf2 1 1\n0\n", "", Status::Words(3), ""),
-    (
-        &["kernel", "A"],
-        "gf2 2 3\n110\n011\n",
-        "",
-        Status::Done,
-        "gf2 1 3\n111\n",
-    ),
-    (
-        &["kernel", "A"],
-        "gf2 2 2\n10\n01\n",
-        "",
-        Status::Done,
-        "gf2 0 2\n",
-    ),
-    (
-        &["kernel", "A", "--out=bare"],
-        "gf2 2 2\n10\n01\n",
-        "",
-        Status::Shape,
-        "",
-    ),
-    (
-        &["kernel", "A", "--out=jcf"],
-        "gf2 2 3\n110\n011\n",
-        "",
-        Status::Done,
-        "1 3 2\n3\n-1 2 3\n",
-    ),
-    (
-        &["kernel", "A", "B"],
-        "gf2 1 1\n0\n",
-        "",
-        Status::Words(3),
-        "",
-    ),
-    (
-        &["echelon", "A", "--in=bare", "--out=bare"],
-        "11\n01\n",
-        "",
-        Status::Done,
-        "10\n01\n",
-    ),
-];
-
-#[test]
-fn questions(rt: HostRuntime) -> Result<(), Fail> {
-    for (words, a, b, status, answer) in QUESTIONS {
-        let ended = run_on(rt.alloc(), words, a.as_bytes(), b.as_bytes(), &AMPLE)?;
-        assert_eq!(rt; ended.status, status, "{words:?} {a:?} {b:?}");
-        assert_eq!(rt;
-            ended.out.taken(),
-            answer.as_bytes(),
-            "{words:?} {a:?} {b:?}"
-        );
-    }
-    let line = b"singular\n";
-    for room in 0..line.len() {
-        let outside = Outside {
-            out_room: room,
-            ..AMPLE
-        };
-        let ended = run_on(
-            rt.alloc(),
-            &["inverse", "A"],
-            b"gf2 1 1\n0\n",
-            b"",
-            &outside,
-        )?;
-        assert_ended(
-            &rt,
-            &ended,
-            Status::Write,
-            &line[..room],
-            "m4lin: write failed\n",
-        );
-    }
-    Ok(())
-}
-
 #[test]
 fn answers_past_a_limit(rt: HostRuntime) -> Result<(), Fail> {
     let tall = format!(in rt.alloc(); "gf2 65536 0\n{}", "\n".repeat(rt.alloc(), 65536)?)?;
     let wide = format!(in rt.alloc(); "gf2 1 65536\n{}\n", "1".repeat(rt.alloc(), 65536)?)?;
-    for (command, a, b) in [
-        ("mul", tall.as_str(), "gf2 0 65536\n"),
-        ("stack", tall.as_str(), "gf2 1 0\n\n"),
-        ("augment", wide.as_str(), ONE),
+    let zeros = format!(in rt.alloc(); "gf2 16385 1\n{}", "0\n".repeat(rt.alloc(), 16385)?)?;
+    for (words, a, b) in [
+        (["mul", "A", "B"].as_slice(), tall.as_str(), "gf2 0 65536\n"),
+        (&["stack", "A", "B"], tall.as_str(), "gf2 1 0\n\n"),
+        (&["augment", "A", "B"], wide.as_str(), ONE),
+        (&["ple", "A"], zeros.as_str(), ""),
+        (&["pluq", "A"], zeros.as_str(), ""),
     ] {
-        let words = [command, "A", "B"];
-        let ended = run_on(rt.alloc(), &words, a.as_bytes(), b.as_bytes(), &AMPLE)?;
+        let ended = run_on(rt.alloc(), words, a.as_bytes(), b.as_bytes(), &AMPLE)?;
         assert_ended(&rt, &ended, Status::Limit, b"", "m4lin: limit passed\n");
     }
+    let ended = run_on(rt.alloc(), &["rank", "A"], zeros.as_bytes(), b"", &AMPLE)?;
+    assert_ended(&rt, &ended, Status::Done, b"rank 0\n", "");
     Ok(())
 }
 
