@@ -1,3 +1,5 @@
+//! A permutation that owns the list of its numbers.
+
 ghost use Rattle.std.specs.Prelude.{◌≡◌, ℕ, ◌<◌, ◌≤◌, ◌^◌, List, length, swap, slice_index, IfOk};
 ghost use Rattle.std.specs.List.{range_with_len};
 ghost use Rattle.m4_model.specs.Shapes.{swaps};

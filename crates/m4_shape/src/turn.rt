@@ -2,7 +2,7 @@
 //! is halved until a part is one block wide (Frigo, Leiserson, Prokop and Ramachandran, "Cache-oblivious algorithms", 1999;
 //! a block is turned as in Warren's "Hacker's Delight", section 7-3).
 
-ghost use Rattle.std.specs.Prelude.{◌≡◌, ◌%◌, ◌<◌, ◌≤◌, IfOk};
+ghost use Rattle.std.specs.Prelude.{◌≡◌, ◌+◌, ◌/◌, ◌%◌, ◌<◌, ◌≤◌, IfOk};
 ghost use Rattle.m4_model.specs.Shapes.{transposed};
 ghost use Rattle.m4_mzd.specs.Window.{content, showing};
 ghost use Rattle.m4_mzd.specs.Seen.{shown};
@@ -50,12 +50,14 @@ fn turned_in(dst: WinMut, a: Win<'_>) -> WinMut
     }
 }
 
-/// The border of words next above the middle.
+/// The first border of words that is not before the middle.
 fn border(n: u32) -> u32
     requires { 64 < n }
     ensures some { 0 < result }
     ensures within { result < n }
     ensures whole_words { result % 64 ≡ 0 }
+    ensures not_before_middle { n / 2 ≤ result }
+    ensures first { result < n / 2 + 64 }
 {
     (n / 2).div_ceil(64) * 64
 }

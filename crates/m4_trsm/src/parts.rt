@@ -1,18 +1,20 @@
 //! The parts of a triangle.
 
-ghost use Rattle.std.specs.Prelude.{◌≡◌, ◌*◌, ◌%◌, ◌<◌, ◌≤◌};
+ghost use Rattle.std.specs.Prelude.{◌≡◌, ◌+◌, ◌*◌, ◌%◌, ◌<◌, ◌≤◌};
 ghost use Rattle.m4_model.specs.Shapes.{cut};
 ghost use Rattle.m4_mzd.specs.Seen.{shown};
 
 use m4_bits::words_for;
 use m4_mzd::Win;
 
-/// Where a triangle of so many rows, more than 64, is cut: at half of its words.
+/// Where a triangle of so many rows, more than 64, is cut: at half of its words, rounded down.
 pub fn half(rows: u32) -> u32
     requires { 64 < rows }
     ensures some { 0 < result }
     ensures less { result < rows }
     ensures whole_words { result % 64 ≡ 0 }
+    ensures not_before_half { rows ≤ 2 * result + 64 }
+    ensures not_behind_half { 2 * result < rows + 64 }
 {
     words_for(rows) / 2 * 64
 }
