@@ -1,12 +1,8 @@
 -- What is written in a part of a rectangle is written in the whole, once the parts are joined.
-use Rattle.std.proofs.Common.{◌≡◌, ℕ, ◌+◌, ◌-◌, ◌*◌, ◌<◌, ◌≤◌, List, [], ◌++◌, length, take, drop, map, set, arith, inl, inr, ap, sym, ◌∙◌}
+use Rattle.std.proofs.Common.{◌≡◌, ℕ, ◌+◌, ◌-◌, ◌*◌, ◌<◌, ◌≤◌, List, ◌++◌, length, take, drop, set, arith, inl, inr, ap, sym, ◌∙◌}
 use Rattle.std.proofs.Math.ListN.{length-set}
 use Rattle.std.proofs.Math.Nat.{eq-or-lt_of_le}
-use Rattle.std.specs.Simd.Lanes.{zip2}
-use Rattle.std.proofs.lemmas.List.{take-append-drop, length-take-le, set-append_right, set-set, set-get_or, set_comm}
-use Rattle.std.proofs.lemmas.List.Elements.{All-from_get_or}
-use Rattle.std.proofs.lemmas.List.Folds.{map_fixed}
-use Rattle.std.proofs.lemmas.Simd.{zip2-map}
+use Rattle.std.proofs.lemmas.List.{length-take-le, set-append_right, set_comm}
 use Rattle.m4_area.specs.Rectangle.{Rectangle, HasShape}
 use Rattle.m4_area.specs.Rows.{row_of, with_row, swapped}
 use Rattle.m4_area.proofs.RowLemmas.{refill_same, set_above, set_below, row_above, row_below}
@@ -45,12 +41,6 @@ written_above v r i new s l h wide =
     rejoined v r _ _ h
     (ap (λ w. set (take r v.words) i w ++ drop r v.words) (refill_same (row_of (take r v.words) i) new old) ∙ set_above v.words r i new l (omega (arith, s.count)))
 
--- Rows that are cut and joined are as they were.
-pub words_rejoined : (rows : List (List ℕ)) (w : ℕ) → zip2 (λ l r. l ++ r) (map (take w) rows) (map (drop w) rows) ≡ rows
-words_rejoined rows w =
-    zip2-map (λ l r. l ++ r) (take w) (drop w) rows
-    ∙ map_fixed (λ row. take w row ++ drop w row) rows (All-from_get_or (λ row. take w row ++ drop w row ≡ row) rows [] (λ i l. take-append-drop w (row_of rows i)))
-
 -- Row i of the upper part and the first row of the lower part were written.
 pub written_both : (v : Rectangle) (i r : ℕ) (upper lower : List ℕ) → HasShape v → i < r → r < v.rows → length upper ≡ v.width → length lower ≡ v.width
     → let above = above_part v r in let below = below_part v r in
@@ -67,10 +57,7 @@ written_both v i r upper lower s l h wide₁ wide₂ =
     ∙ sym (set-append_right (set (take r v.words) i upper) (drop r v.words) r r lower front (omega arith))
     ∙ ap (λ ws. set ws r lower) (set_above v.words r i upper l (omega (arith, s.count))))
 
--- Two rows swapped are the same two swapped the other way round, and a row swapped with itself stays.
-pub swapped_same : (rows : List (List ℕ)) (r : ℕ) → swapped rows r r ≡ rows
-swapped_same rows r = set-set rows r (row_of rows r) (row_of rows r) ∙ set-get_or rows r []
-
+-- Two rows swapped are the same two swapped the other way round.
 pub swapped_turned : (rows : List (List ℕ)) (r s : ℕ) → s ≤ r → swapped rows s r ≡ swapped rows r s
 swapped_turned rows r s h =
     elim (eq-or-lt_of_le h) as (λ _. swapped rows s r ≡ swapped rows r s) [

@@ -1,6 +1,6 @@
 -- The parts of a rectangle have a rectangle's shape, and so has what they are joined to.
 use Rattle.std.proofs.Common.{◌≡◌, ℕ, ◌+◌, ◌-◌, ◌*◌, ◌<◌, ◌≤◌, List, [], ◌++◌, length, take, drop, map, arith, sym, ap, ◌∙◌}
-use Rattle.std.proofs.Math.Nat.{add-mul, mul-le-mul_right, le-mul_of_pos_right}
+use Rattle.std.proofs.Math.Nat.{add-mul, mul-le-mul_right}
 use Rattle.std.specs.Simd.Lanes.{zip2}
 use Rattle.std.proofs.lemmas.List.{length-append, length-drop, length-take-le, length-map}
 use Rattle.std.proofs.lemmas.List.Elements.{All-take, All-drop, All-append, All-map, All-set, All-get_or, All-from_get_or, All-weaker}
@@ -18,9 +18,6 @@ rows_less r rows stride h =
 
 pub row_before : (r rows stride : ℕ) → r ≤ rows → r * stride ≤ rows * stride
 row_before r rows stride h = mul-le-mul_right stride h
-
-pub rows_few : (rows stride : ℕ) → 0 < stride → rows ≤ rows * stride
-rows_few rows stride h = le-mul_of_pos_right rows h
 
 pub shape_above : (v : Rectangle) (r : ℕ) → HasShape v → r ≤ v.rows → HasShape (record v { rows = r; words = take r v.words })
 shape_above v r s h = record {

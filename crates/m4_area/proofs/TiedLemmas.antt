@@ -1,5 +1,5 @@
 -- The numbers of a rectangle's parts name the words of their areas.
-use Rattle.std.proofs.Common.{◌≡◌, ℕ, zero, suc, max, ◌+◌, ◌-◌, ◌*◌, ◌^◌, ◌<◌, ◌≤◌, List, [], ◌++◌, length, take, drop, map, arith, sym, ap, subst, ◌∙◌}
+use Rattle.std.proofs.Common.{◌≡◌, ℕ, zero, suc, max, ◌+◌, ◌-◌, ◌*◌, ◌^◌, ◌<◌, ◌≤◌, List, ◌++◌, length, take, drop, map, arith, sym, ap, subst, ◌∙◌}
 use Rattle.std.proofs.Math.Nat.{mul_assoc}
 use Rattle.std.proofs.lemmas.List.Elements.{All-same}
 use Rattle.std.specs.Simd.Lanes.{zip2}
@@ -12,7 +12,7 @@ use Rattle.m4_area.specs.Tied.{rectangle, IsTied}
 use Rattle.m4_area.specs.declared.area.Area.{Area}
 use Rattle.m4_area.specs.declared.words.Words.TheInside.{Inside}
 use Rattle.m4_area.proofs.RowLemmas.{length-rows_of, widths-rows_of}
-use Rattle.m4_area.proofs.ShapeLemmas.{shape_above, shape_below, shape_left, shape_right, shape_stacked, shape_beside, shape_row}
+use Rattle.m4_area.proofs.ShapeLemmas.{shape_below, shape_left, shape_right, shape_beside, shape_row}
 
 -- so many rows, in bytes
 pub rows_in_bytes : (r step stride : ℕ) → step ≡ stride * 8 → r * step ≡ r * stride * 8
@@ -20,12 +20,6 @@ rows_in_bytes r step stride e = ap (λ k. r * k) e ∙ sym (mul_assoc r stride 8
 
 pub row_at : (w : Inside) (r : ℕ) → IsTied w → IsRowAt w.area.block w.area.first w.area.step w.base (w.skip + r * w.stride) r
 row_at w r t = record { within = t.within; byte = omega (arith, t.first, rows_in_bytes r w.area.step w.stride t.step) }
-
-pub tied_above : (w : Inside) (r : ℕ) (a : Area) → IsTied w → r ≤ w.rows → a ≡ record w.area { rows = take r w.area.rows }
-    → IsTied (record w { rows = r; area = a })
-tied_above w r a t h e =
-    let P : Area → Type 0 = λ x. IsTied (record w { rows = r; area = x }) in
-    subst P (sym e) (record { within = t.within; first = t.first; step = t.step; shape = shape_above (rectangle w) r t.shape h })
 
 pub tied_below : (w : Inside) (r : ℕ) (a : Area) → IsTied w → r ≤ w.rows
     → a ≡ record w.area { first = w.area.first + r * w.area.step; rows = drop r w.area.rows }
@@ -55,18 +49,6 @@ tied_right w n a t h e =
       first = omega (arith, t.first);
       step = t.step;
       shape = shape_right (rectangle w) n t.shape h;
-    })
-
-pub tied_stacked : (w b : Inside) (a : Area) → IsTied w → IsTied b → (rectangle b).place ≡ (rectangle w).place → b.width ≡ w.width → b.skip ≡ w.skip + w.rows * w.stride
-    → a ≡ record w.area { rows = w.area.rows ++ b.area.rows }
-    → IsTied (record w { rows = w.rows + b.rows; area = a })
-tied_stacked w b a t s place width meets e =
-    let P : Area → Type 0 = λ x. IsTied (record w { rows = w.rows + b.rows; area = x }) in
-    subst P (sym e) (record {
-      within = t.within;
-      first = t.first;
-      step = t.step;
-      shape = shape_stacked (rectangle w) (rectangle b) t.shape s.shape place width meets;
     })
 
 -- where the second of two areas begins
@@ -135,6 +117,3 @@ module _ (x y v u : Rectangle) (sees_x : x ≡ v) (sees_y : y ≡ u) where
 
 pub tied_row : (w : Inside) (r : ℕ) (new : List ℕ) → IsTied w → r < w.rows → IsTied (record w { area = row_left w.area r new })
 tied_row w r new t h = record { within = t.within; first = t.first; step = t.step; shape = shape_row (rectangle w) r new t.shape h }
-
-pub tied_empty : (w : Inside) (a : Area) → IsTied w → a ≡ record w.area { rows = [] } → IsTied (record w { rows = 0; area = a })
-tied_empty w a t e = tied_above w 0 a t (omega arith) e

@@ -80,9 +80,6 @@ pub record Gathered (digits : List ℕ) (n word others : ℕ) : Type 0 where
   pub read : others ≤ 1 → take n digits ≡ digits_of word n
   pub other : 1 < others → AreDigits digits → ⊥
 
-pub gathered_none : (digits : List ℕ) → Gathered digits 0 0 0
-gathered_none digits = record { small = omega arith; read = λ few. refl; other = λ many. absurd (omega arith) }
-
 pub gathered_more : (digits : List ℕ) (n word others : ℕ) → n < length digits → n < 64 → Gathered digits n word others
     → Gathered digits (n + 1) (bit_or word (bit_and (get_or digits n 0) 1 * 2 ^ n % 2 ^ 64)) (bit_or others (bit_xor (get_or digits n 0) 48))
 gathered_more digits n word others within few so_far =

@@ -1,5 +1,5 @@
 -- Bits that are copied from one row to another: two words that make one, one word, and copies one after another.
-use Rattle.std.proofs.Common.{◌≡◌, ℕ, ◌+◌, ◌-◌, ◌*◌, ◌/◌, ◌%◌, ◌^◌, ◌<◌, ◌≤◌, inl, inr, max, List, length, get_or, set, refl, sym, ◌∙◌, ap, arith}
+use Rattle.std.proofs.Common.{◌≡◌, ℕ, ◌+◌, ◌-◌, ◌*◌, ◌/◌, ◌%◌, ◌^◌, ◌<◌, ◌≤◌, inl, inr, max, List, length, get_or, set, sym, ◌∙◌, ap, arith}
 use Rattle.std.specs.Prelude.{bit_or}
 use Rattle.std.specs.Int.{bit_at}
 use Rattle.std.proofs.lemmas.Nat.Bits.{bit_at_or, bit_at_above, bit_at_ones, bit_at_ones_above}
@@ -70,13 +70,6 @@ word_of_two row from word j small lower upper =
     ]
 
 -- ---- copies one after another
-pub none_copied : (old src : List ℕ) (to from count : ℕ) → count ≡ 0 → AreCopied old old src to from count
-none_copied old src to from count none = record {
-  copied = λ k below. absurd (omega arith);
-  before = λ k below. refl;
-  after = λ k past. refl;
-}
-
 pub copied_more : (old now new src : List ℕ) (to from m n total : ℕ) → m + n ≡ total → AreCopied old now src to from m → AreCopied now new src (to + m) (from + m) n
     → AreCopied old new src to from total
 copied_more old now new src to from m n total all one more = record {

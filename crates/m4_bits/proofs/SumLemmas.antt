@@ -52,13 +52,6 @@ get_or-lanes_added v (x ∷ xs) k n long j is all room within =
     get_or-lanes_added (zip2 bit_xor v (chunk k n x)) xs k n long j (length-zip2 bit_xor v (chunk k n x) (is ∙ sym chunked) ∙ is) all.1 room within
     ∙ ap (λ w. word_added w xs (k + j)) lane
 
--- nothing is added yet
-pub added-none : (old : List ℕ) (xs : List (List ℕ)) (k : ℕ) → k ≡ 0 → Added old old xs k
-added-none old xs k none = record {
-  added = λ i below. absurd (omega (arith, none, below));
-  kept = λ i past. refl;
-}
-
 -- one more block of n words is added
 pub added-more : (old now : List ℕ) (xs : List (List ℕ)) (k n m : ℕ) → AllLong (length old) xs → length now ≡ length old
     → k + n ≤ length old → m ≡ k + n → Added old now xs k → Added old (put_chunk k now (lanes_added (chunk k n now) xs k n)) xs m

@@ -1,8 +1,8 @@
 -- Neighbouring bits of a row: those of one word, and those across two.
-use Rattle.std.proofs.Common.{◌≡◌, ℕ, ◌+◌, ◌-◌, ◌*◌, ◌/◌, ◌%◌, ◌^◌, ◌<◌, ◌≤◌, inl, inr, max, lit<, List, get_or, sym, subst, ◌∙◌, ap, arith, bit_and}
+use Rattle.std.proofs.Common.{◌≡◌, ℕ, ◌+◌, ◌-◌, ◌*◌, ◌/◌, ◌%◌, ◌^◌, ◌<◌, ◌≤◌, inl, inr, max, List, get_or, sym, subst, ◌∙◌, ap, arith, bit_and}
 use Rattle.std.specs.Prelude.{bit_or}
 use Rattle.std.specs.Int.{bit_at}
-use Rattle.std.proofs.Math.Nat.{mod-eq_of_lt, mod-lt, pow-le-pow_right}
+use Rattle.std.proofs.Math.Nat.{mod-eq_of_lt, mod-lt}
 use Rattle.std.proofs.Math.Pow.{pow-lt}
 use Rattle.std.proofs.lemmas.Nat.{pow_pos}
 use Rattle.std.specs.Int.Bits.{and_mask}
@@ -29,11 +29,6 @@ lowest-lt word n few =
     let is : bit_and word (1 * 2 ^ n % 2 ^ 64 - 1) ≡ word % 2 ^ n = ap (λ x. bit_and word (x - 1)) (one_at n few) ∙ and_mask word n in
     let P : ℕ → Type 0 = λ x. x < 2 ^ n in
     subst P (sym is) (mod-lt word (pow_pos n))
-
-pub lowest-fits : (word n : ℕ) → n ≤ 16 → bit_and word (1 * 2 ^ n % 2 ^ 64 - 1) < 2 ^ 32
-lowest-fits word n few =
-    let most : 2 ^ n ≤ 2 ^ 16 = pow-le-pow_right (lit< tt) few in
-    omega (arith, lowest-lt word n few, most)
 
 -- ---- where they stand in a row
 pub bit_in_word : (row : List ℕ) (j i : ℕ) → j % 64 + i < 64 → bit_at (get_or row (j / 64) 0 / 2 ^ (j % 64)) i ≡ bit row (j + i)

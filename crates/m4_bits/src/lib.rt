@@ -1,4 +1,5 @@
-//! Rows of words of 64 bits: single bits, masks, and the sum of two rows.
+//! Rows of words of 64 bits: single bits, masks, sums of up to eight rows into one, copies to any place, exchanges, a few bits
+//! as a number, the digits of a word and back, and the turn of a block of 64 x 64 bits.
 //!
 //! Column `j` of a row is bit `j % 64`, counted from the least significant, of word `j / 64`. No call takes memory, and
 //! none refuses: what a call needs of its slices is in its `requires`.

@@ -1,5 +1,5 @@
 -- A window that is put back among what lay around it, in the words of the calls that take it out and put it back.
-use Rattle.std.proofs.Common.{◌≡◌, ℕ, ◌+◌, ◌-◌, List, ◌++◌, map, sym, ◌∙◌, ap, subst, arith}
+use Rattle.std.proofs.Common.{◌≡◌, ℕ, ◌+◌, ◌-◌, ◌++◌, map, sym, ◌∙◌, ap, subst, arith}
 use Rattle.std.specs.Simd.Lanes.{zip2}
 use Rattle.m4_model.specs.Matrix.{Matrix}
 use Rattle.m4_model.specs.Shapes.{replace}
@@ -59,24 +59,3 @@ pub put_is_held : (around : Around) (part : Window) (rect : Rect) (A : Matrix) (
     → window words m ≡ part → IsFramed words m → HasShape u → u ≡ joined around words → IsHeld u around.cols
 put_is_held around part rect A words u m h is framed shape e =
     is_held_put h.whole words u around.cols rect (known around part rect A words u m h is framed shape e)
-
--- a window that was written still fits
-pub around_kept : (around : Around) (part : Window) (rect : Rect) (A : Matrix) (written : Window) (bits : List (List ℕ)) → IsAround around part rect A
-    → written ≡ record part { bits = bits } → IsAround around written rect A
-around_kept around part rect A written bits h e = record {
-  whole = h.whole;
-  matrix = h.matrix;
-  is_held = h.is_held;
-  inside = h.inside;
-  whole_words = h.whole_words;
-  above = h.above;
-  below = h.below;
-  left = h.left;
-  right = h.right;
-  storage = h.storage;
-  place = ap (λ (w : Window). w.place) e ∙ h.place;
-  skip = ap (λ (w : Window). w.skip) e ∙ h.skip;
-  rows = ap (λ (w : Window). w.rows) e ∙ h.rows;
-  cols = ap (λ (w : Window). w.cols) e ∙ h.cols;
-  past = ap (λ (w : Window). w.past) e ∙ h.past;
-}

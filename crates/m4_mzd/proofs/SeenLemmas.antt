@@ -45,10 +45,6 @@ words_seen w = viewed w.view
 pub framed_seen : (w : Win) → IsFramed (words_seen w) w.cols
 framed_seen w = record { shape = shape_viewed w.view; wide = w.wide; few_rows = w.few_rows; few_cols = w.few_cols }
 
-pub shown-is : (w : Win) → content (window (words_seen w) w.cols) ≡ shown w
-unfolding shown_rows
-shown-is w = refl
-
 pub IsMatrix_shown : (w : Win) → IsMatrix (shown w)
 unfolding shown_rows
 IsMatrix_shown w = (IsWindow_shown (words_seen w) w.cols (window (words_seen w) w.cols) refl (framed_seen w)).matrix

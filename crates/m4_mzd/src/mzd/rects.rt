@@ -23,6 +23,8 @@ impl Mzd {
         ensures content { content result.0 ≡ cut self.old rect.r0 rect.c0 rect.r1 rect.c1 }
         ensures around { IsAround result.1 result.0 rect self.old }
         ensures whatever_it_shows { (B : Matrix) → IsAround result.1 (showing result.0 B) rect self.old }
+        ensures no_rows_left { self.new.rows ≡ 0 }
+        ensures no_cols_left { self.new.cols ≡ 0 }
     {
         let cols = self.cols;
         let (words, storage) = self.words.take();

@@ -49,6 +49,8 @@ impl Mzd {
         ensures content { content result.0 ≡ self.old }
         ensures home { IsHomeOf result.1 result.0 }
         ensures padded { IsPadded result.0 }
+        ensures no_rows_left { self.new.rows ≡ 0 }
+        ensures no_cols_left { self.new.cols ≡ 0 }
     {
         let (words, storage) = self.words.take();
         let cols = self.cols;

@@ -1,4 +1,4 @@
-use Rattle.std.proofs.Common.{◌≡◌, subst, sym, ap, ◌∙◌}
+use Rattle.std.proofs.Common.{subst, sym, ap, ◌∙◌}
 use Rattle.m4_model.specs.Field.{gf2}
 use Rattle.m4_model.specs.Matrix.{zero_matrix}
 use Rattle.m4_model.specs.Shapes.{replace}

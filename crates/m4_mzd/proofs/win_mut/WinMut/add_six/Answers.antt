@@ -1,11 +1,6 @@
-use Rattle.std.proofs.Common.{[], ◌∷◌, get_or, set, arith, sym, ap, ◌∙◌}
-use Rattle.m4_model.specs.Matrix.{row}
-use Rattle.m4_mzd.specs.Window.{content}
-use Rattle.m4_mzd.specs.Seen.{shown}
-use Rattle.m4_mzd.specs.Rows.{rows_at, sum_of}
+use Rattle.std.proofs.Common.{[], ◌∷◌, sym, ap, ◌∙◌}
 use Rattle.m4_mzd.proofs.WindowLemmas.{framed_row}
-use Rattle.m4_mzd.proofs.WriteLemmas.{row_written, holds_own, holds_seen}
-use Rattle.m4_mzd.proofs.ManyLemmas.{wrote_rows, listed}
+use Rattle.m4_mzd.proofs.ManyLemmas.{words_at, rows_written, listed}
 use Rattle.m4_mzd.proofs.win_mut.WinMut.add_six.Goals as goal
 
 pub invariant_of-self : goal.invariant_of-self
@@ -14,16 +9,6 @@ invariant_of-self c =
 
 pub returns : goal.returns
 returns c =
-    let v = c.self.inside.words in
-    let cols = c.self.inside.cols in
-    let w = c.args.self.now in
-    let a_holds = holds_seen c.args.from.now cols (get_or c.args.numbers.now 0 0) c.numbered-a.result.now w v c.self.view_is (c.requires.in_from 0 0 (omega arith)) c.requires.same_cols c.numbered-a.ensures.words in
-    let b_holds = holds_seen c.args.from.now cols (get_or c.args.numbers.now 1 0) c.numbered-b.result.now w v c.self.view_is (c.requires.in_from 1 0 (omega arith)) c.requires.same_cols c.numbered-b.ensures.words in
-    let c_holds = holds_seen c.args.from.now cols (get_or c.args.numbers.now 2 0) c.numbered-c.result.now w v c.self.view_is (c.requires.in_from 2 0 (omega arith)) c.requires.same_cols c.numbered-c.ensures.words in
-    let d_holds = holds_seen c.args.from.now cols (get_or c.args.numbers.now 3 0) c.numbered-d.result.now w v c.self.view_is (c.requires.in_from 3 0 (omega arith)) c.requires.same_cols c.numbered-d.ensures.words in
-    let e_holds = holds_seen c.args.from.now cols (get_or c.args.numbers.now 4 0) c.numbered-e.result.now w v c.self.view_is (c.requires.in_from 4 0 (omega arith)) c.requires.same_cols c.numbered-e.ensures.words in
-    let f_holds = holds_seen c.args.from.now cols (get_or c.args.numbers.now 5 0) c.numbered-f.result.now w v c.self.view_is (c.requires.in_from 5 0 (omega arith)) c.requires.same_cols c.numbered-f.ensures.words in
-    let mine = holds_own v cols c.args.r c.row_mut.result.now w c.self.view_is c.self.invariant c.requires.in_rows c.row_mut.ensures.words in
-    row_written v cols c.args.r c.row_mut.result.now c.xor_from6.new.dst _ w c.self.view_is c.self.invariant c.requires.in_rows c.row_mut.ensures.words
-    (wrote_rows cols c.mask-last.result c.row_mut.result.now c.xor_from6.new.dst _ (c.numbered-a.result.now ∷ c.numbered-b.result.now ∷ c.numbered-c.result.now ∷ c.numbered-d.result.now ∷ c.numbered-e.result.now ∷ c.numbered-f.result.now ∷ []) (row (shown c.args.from.now) (get_or c.args.numbers.now 0 0) ∷ row (shown c.args.from.now) (get_or c.args.numbers.now 1 0) ∷ row (shown c.args.from.now) (get_or c.args.numbers.now 2 0) ∷ row (shown c.args.from.now) (get_or c.args.numbers.now 3 0) ∷ row (shown c.args.from.now) (get_or c.args.numbers.now 4 0) ∷ row (shown c.args.from.now) (get_or c.args.numbers.now 5 0) ∷ []) c.mask-last.ensures c.xor_from6.ensures mine (a_holds, (b_holds, (c_holds, (d_holds, (e_holds, (f_holds, tt)))))))
-    ∙ ap (λ numbers. record w { bits = set w.bits c.args.r (sum_of (row (content w) c.args.r) (rows_at (shown c.args.from.now) numbers)) }) (sym (listed c.args.numbers.now 6 c.requires.six))
+    let sources = (λ i. c.numbered-a.ensures.words i ∷ c.numbered-b.ensures.words i ∷ c.numbered-c.ensures.words i ∷ c.numbered-d.ensures.words i ∷ c.numbered-e.ensures.words i ∷ c.numbered-f.ensures.words i ∷ []) ∙ ap (words_at c.args.from.now) (sym (listed c.args.numbers.now 6 c.requires.six)) in
+    rows_written c.args.from.now c.self.inside.words c.self.inside.cols c.args.r c.mask-last.result c.row_mut.result.now c.xor_from6.new.dst _ c.args.numbers.now c.args.self.now
+    c.self.view_is c.self.invariant c.requires.in_rows c.requires.same_cols c.requires.in_from sources c.mask-last.ensures c.row_mut.ensures.words c.xor_from6.ensures
