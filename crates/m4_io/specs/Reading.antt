@@ -1,5 +1,5 @@
 -- What the reading of a whole file gives, and why it fails.
-use Rattle.std.specs.Prelude.{◌≡◌, ℕ, ◌<◌, ◌⊎◌, List, ◌++◌, length, Option, Some, None}
+use Rattle.std.specs.Prelude.{◌≡◌, ℕ, ◌<◌, ◌⊎◌, ◌↔◌, List, ◌++◌, length, Option, Some, None}
 use Rattle.m4_model.specs.Outcome.{Stock, bytes_of}
 use Rattle.m4_io.specs.Outside.{Rose, Lacks}
 use Rattle.m4_io.specs.declared.whole.ReadFault.{ReadFault}
@@ -12,6 +12,10 @@ IsWholeOrLong limit bytes all = (bytes ≡ all) ⊎ ((limit < length bytes) × (
 -- Where the files are told, the bytes are those of the first file of this name, or more than the limit of them.
 abbrev pub IsFileOrLong : Option Stock → List ℕ → ℕ → List ℕ → Type 0
 IsFileOrLong told name limit bytes = (files : Stock) → told ≡ Some files → (all : List ℕ) × (bytes_of files name ≡ Some all) × IsWholeOrLong limit bytes all
+
+-- Where the files are told, the bytes pass the limit exactly where the first file of this name does.
+abbrev pub PassesAsFile : Option Stock → List ℕ → ℕ → List ℕ → Type 0
+PassesAsFile told name limit bytes = (files : Stock) (all : List ℕ) → told ≡ Some files → bytes_of files name ≡ Some all → (limit < length bytes) ↔ (limit < length all)
 
 -- Where the bytes left are told, these are all of them, or more than the limit of them.
 abbrev pub IsRestOrLong : Option (List ℕ) → ℕ → List ℕ → Type 0

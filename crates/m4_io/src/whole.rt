@@ -1,6 +1,6 @@
 ghost use Rattle.std.specs.Prelude.{◌≡◌, ◌≤◌, ◌<◌, ◌+◌, ◌^◌, IsTrue, OnOk, IfOk, IfErr, IsErrOf, vec_len};
 ghost use Rattle.m4_io.specs.Outside.{Lacks, WritesAll};
-ghost use Rattle.m4_io.specs.Reading.{IsFileOrLong, IsRestOrLong, IsReadCause, IsRestCause};
+ghost use Rattle.m4_io.specs.Reading.{IsFileOrLong, PassesAsFile, IsRestOrLong, IsReadCause, IsRestCause};
 ghost use Rattle.m4_io.specs.declared.whole.ReadFault.TheVariants.{Failed as failed_fault, NoMemory as memory_fault};
 
 use crate::{Failed, Shelf, Sink};
@@ -47,7 +47,8 @@ impl From<AllocError> for ReadFault {
 /// How many bytes of a file are read in one piece, at most.
 pub const PIECE: usize = 16384;
 
-/// Reads the file of this name to its end, or until more than `limit` bytes of it were read.
+/// Reads the file of this name to its end, or until more than `limit` bytes of it were read: where the file is longer than
+/// the limit, so is what was read of it.
 pub fn read_whole<S: Shelf>(
     alloc: Global,
     shelf: &mut S,
@@ -57,6 +58,7 @@ pub fn read_whole<S: Shelf>(
     requires { limit < 2 ^ 62 }
     ensures stock { S.stock shelf.new ≡ S.stock shelf.old }
     ensures bytes { IfOk result (λ bytes. IsFileOrLong (S.stock shelf.old) name.now limit bytes.items) }
+    ensures passed { IfOk result (λ bytes. PassesAsFile (S.stock shelf.old) name.now limit bytes.items) }
     ensures bounded { IfOk result (λ bytes. vec_len bytes ≤ limit + PIECE) }
     ensures lacking { Lacks (S.stock shelf.old) name.now → IsErrOf result ReadFault.Failed }
     ensures later { S.faults shelf.old ≤ S.faults shelf.new }

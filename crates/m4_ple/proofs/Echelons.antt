@@ -1,8 +1,8 @@
 -- The echelon form in place: a row that keeps its tail, and the form that a PLE in place holds.
-use Rattle.std.proofs.Common.{◌≡◌, ◌≢◌, ℕ, ◌+◌, ◌-◌, ◌<◌, ◌≤◌, ◌⊎◌, inl, inr, ⊎_elim, refl, sym, ◌∙◌, ap, ap₂, arith, List, [], length, slice_index, get_or, take, drop, set, replicate, ◌++◌, bit_xor, nat_lt, nat_le, ◌&&◌, if◌then◌else◌, length-append, length-take, length-drop, get_or-take, get_or-drop}
+use Rattle.std.proofs.Common.{◌≡◌, ℕ, ◌+◌, ◌-◌, ◌<◌, ◌≤◌, inl, inr, ⊎_elim, refl, sym, ◌∙◌, ap, arith, List, length, slice_index, get_or, drop, replicate, ◌++◌, bit_xor, nat_lt, nat_le, ◌&&◌, if◌then◌else◌, length-append, length-drop, get_or-drop}
 use Rattle.std.specs.Int.Bits.{xor_zero_l}
 use Rattle.std.proofs.lemmas.Bool.{cases_lt, lt-ltb, le-ltb, le-leb, lt-leb}
-use Rattle.std.proofs.lemmas.List.{ext_get_or, length-replicate, get_or-replicate, get_or_append_left, get_or-append_right, get_or-set_same}
+use Rattle.std.proofs.lemmas.List.{ext_get_or, length-replicate, get_or-replicate, get_or_append_left, get_or-append_right}
 use Rattle.m4_model.specs.Field.{Field}
 use Rattle.m4_model.specs.Matrix.{Matrix, IsMatrix, HasShape, row, at, matrix_of, with_row}
 use Rattle.m4_model.specs.Factors.{Stored}
@@ -13,7 +13,6 @@ use Rattle.m4_model.proofs.ShapeLemmas.{at_shape, same_from_entries}
 use Rattle.m4_model.proofs.FactorLemmas.{at-stored_upper}
 use Rattle.m4_mzd.specs.Rows.{sum_from}
 use Rattle.m4_ple.specs.Parts.{echelon_entry, echelon_part}
-use Rattle.m4_ple.specs.Held.{HoldsPle}
 use Rattle.m4_ple.proofs.RowByRow.{done_to, done_to-more, at-done_later}
 use Rattle.m4_ple.proofs.Clearing.{length-sum_from, sum_from-before, sum_from-after}
 

@@ -1,5 +1,5 @@
 -- The state of an elimination in place: at the start, past a column without a pivot, past one with a pivot, and at the end.
-use Rattle.std.proofs.Common.{Bool, true, false, ◌≡◌, ◌≢◌, ℕ, ◌+◌, ◌<◌, ◌≤◌, ◌⊎◌, inl, inr, ⊎_elim, refl, sym, ◌∙◌, ap, ap₂, subst, arith, bit_xor, List, [], ◌∷◌, ◌++◌, length, slice_index, get_or, take, set, nat_lt, nat_le, ◌&&◌, ◌==◌, if◌then◌else◌, length-take}
+use Rattle.std.proofs.Common.{Bool, true, false, ◌≡◌, ◌≢◌, ℕ, ◌+◌, ◌<◌, ◌≤◌, ◌⊎◌, inl, inr, ⊎_elim, refl, sym, ◌∙◌, ap, ap₂, subst, arith, bit_xor, List, [], ◌∷◌, ◌++◌, length, slice_index, get_or, take, set, nat_lt, nat_le, ◌&&◌, ◌==◌, if◌then◌else◌}
 use Rattle.std.specs.List.{range_with_len, swap}
 use Rattle.std.specs.Int.Bits.{xor_lt, xor_self, xor_zero_r}
 use Rattle.std.proofs.Math.Pow.{pow_pos}
@@ -7,20 +7,19 @@ use Rattle.std.proofs.lemmas.Bool.{cases_lt, cases_eq, eq-eqb, ne_eqb, lt-ltb, l
 use Rattle.std.proofs.lemmas.List.{take_more_set, get_or-set_other, length-set}
 use Rattle.std.proofs.lemmas.List.FromFn.{length-range_with_len, get_or-range_with_len}
 use Rattle.std.proofs.lemmas.List.Edits.{length-swap, swapped_from_swap}
-use Rattle.m4_model.specs.Field.{Field, IsField, IsElement, gf2, mul}
-use Rattle.m4_model.specs.Matrix.{Matrix, IsMatrix, HasShape, at, row, matrix_of, identity}
+use Rattle.m4_model.specs.Field.{Field, IsElement, gf2, mul}
+use Rattle.m4_model.specs.Matrix.{Matrix, IsMatrix, HasShape, at, identity}
 use Rattle.m4_model.specs.Shapes.{swaps}
 use Rattle.m4_model.specs.Factors.{IsUnitLower, IsPle, stored}
 use Rattle.m4_model.proofs.FieldLaws.{FieldLaws}
 use Rattle.m4_model.proofs.Gf2Lemmas.{gf2_laws, bit_cases}
-use Rattle.m4_model.proofs.MatrixLemmas.{at-table, same_matrix}
+use Rattle.m4_model.proofs.MatrixLemmas.{at-table}
 use Rattle.m4_model.proofs.ProductLemmas.{unit_at, unit_at-same, unit_at-other}
 use Rattle.m4_model.proofs.ShapeLemmas.{at_shape, HasShape-own, HasShape-matrix_of, IsField-shape, IsElement-shape, same_from_entries}
 use Rattle.m4_model.proofs.SumLemmas.{mul-zero_left}
 use Rattle.m4_model.proofs.RingLemmas.{HasShape-one, IsElement-unit_at}
 use Rattle.m4_model.proofs.ExchangeLemmas.{rising_room}
 use Rattle.m4_model.proofs.EliminationLemmas.{IsPartial, ple_from_partial, partial_start, partial_skip, partial_swap, partial_pivot, exchange, exchange-first, exchange-second, exchange-other}
-use Rattle.m4_perm.specs.Perm.{AreSwaps}
 use Rattle.m4_ple.specs.Elimination.{IsEliminated, lower_part, upper_part, cleared, cleared_entry, with_swapped}
 use Rattle.m4_ple.specs.Held.{HoldsPle}
 use Rattle.m4_ple.proofs.Clearing.{cleared-none, cleared-factor, cleared-column, cleared-before, cleared-after, at-cleared_other, at-cleared_row}

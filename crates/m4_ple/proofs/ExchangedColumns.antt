@@ -1,23 +1,20 @@
 -- The columns of a PLE in place are exchanged row by row, and the factors of a PLUQ stand there.
-use Rattle.std.proofs.Common.{Bool, true, false, ◌≡◌, ◌≢◌, ℕ, zero, suc, ◌+◌, ◌-◌, ◌<◌, ◌≤◌, ◌⊎◌, inl, inr, ⊎_elim, refl, sym, ◌∙◌, ap, ap₂, subst, arith, List, [], ◌∷◌, length, slice_index, get_or, drop, set, nat_lt, nat_le, ◌&&◌, if◌then◌else◌, length-drop, get_or-drop}
+use Rattle.std.proofs.Common.{◌≡◌, ◌≢◌, ℕ, zero, suc, ◌+◌, ◌<◌, ◌≤◌, ⊎_elim, refl, sym, ◌∙◌, ap, ap₂, arith, List, [], ◌∷◌, length, slice_index, get_or, drop, set, nat_lt, nat_le, ◌&&◌, if◌then◌else◌, length-drop, get_or-drop}
 use Rattle.std.specs.List.{range_with_len, swap}
 use Rattle.std.proofs.lemmas.Bool.{cases_lt, cases_eq, lt-ltb, le-ltb, le-leb, lt-leb}
-use Rattle.std.proofs.lemmas.List.{ext_get_or, get_or-set_same, get_or-set_other, set-set}
+use Rattle.std.proofs.lemmas.List.{ext_get_or, get_or-set_same, set-set}
 use Rattle.std.proofs.lemmas.List.Edits.{length-swap, swap_is}
 use Rattle.std.proofs.lemmas.List.FromFn.{length-range_with_len, get_or-range_with_len}
-use Rattle.m4_model.specs.Field.{Field}
-use Rattle.m4_model.specs.Matrix.{Matrix, IsMatrix, HasShape, row, at, table, matrix_of, with_row, with_entry}
+use Rattle.m4_model.specs.Matrix.{Matrix, IsMatrix, row, at, with_row, with_entry}
 use Rattle.m4_model.specs.Shapes.{exchanged, swaps}
-use Rattle.m4_model.specs.Factors.{IsPle, Stored, StoredPluq, stored, stored_pluq}
+use Rattle.m4_model.specs.Factors.{IsPle, stored, stored_pluq}
 use Rattle.m4_model.proofs.FieldLaws.{FieldLaws}
-use Rattle.m4_model.proofs.MatrixLemmas.{length-table, length-row-table, at-table, same_table}
-use Rattle.m4_model.proofs.ShapeLemmas.{at_shape}
+use Rattle.m4_model.proofs.MatrixLemmas.{length-row-table, at-table}
 use Rattle.m4_model.proofs.ExchangeLemmas.{exchanged-before, rising-at_least, rising_room}
 use Rattle.m4_model.proofs.EliminationLemmas.{exchange, exchange-first, exchange-second, exchange-other, at-swap}
 use Rattle.m4_model.proofs.BlockLemmas.{at-picked_cols}
 use Rattle.m4_model.proofs.FactorLemmas.{upper_of_ple, pluq_of_ple}
-use Rattle.m4_mzd.proofs.RowLemmas.{with_row-matrix_of}
-use Rattle.m4_perm.proofs.OrderLemmas.{exchange_step, exchange_done}
+use Rattle.m4_perm.proofs.OrderLemmas.{exchange_step}
 use Rattle.m4_ple.proofs.RowByRow.{same_made_entries, row-done_later, done_to-more}
 use Rattle.m4_ple.specs.Columns.{exchanged_row, with_exchanged}
 use Rattle.m4_ple.specs.Held.{HoldsPle, HoldsPluq}

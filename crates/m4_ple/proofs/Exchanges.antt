@@ -1,12 +1,12 @@
 -- Exchanges of rows that are put down one by one, in a list that leaves everything as it is at first.
-use Rattle.std.proofs.Common.{◌≡◌, ◌≢◌, ℕ, zero, suc, ◌+◌, ◌<◌, ◌≤◌, ⊎_elim, refl, sym, ◌∙◌, ap, ap₂, arith, List, length, get_or, take, drop, set}
+use Rattle.std.proofs.Common.{◌≡◌, ◌≢◌, ℕ, zero, suc, ◌+◌, ◌<◌, ◌≤◌, ⊎_elim, sym, ◌∙◌, ap, ap₂, arith, List, length, get_or, drop, set}
 use Rattle.std.specs.List.{range_with_len, swap}
 use Rattle.std.proofs.lemmas.Bool.{cases_lt, cases_eq}
 use Rattle.std.proofs.lemmas.List.{ext_get_or, length-set, get_or-set_same, get_or-set_other}
 use Rattle.std.proofs.lemmas.List.Edits.{length-swap}
 use Rattle.std.proofs.lemmas.List.FromFn.{length-range_with_len, get_or-range_with_len}
 use Rattle.m4_model.specs.Shapes.{exchanged, swaps}
-use Rattle.m4_model.proofs.EliminationLemmas.{exchange, exchange-first, exchange-other, at-swap}
+use Rattle.m4_model.proofs.EliminationLemmas.{exchange-first, exchange-other, at-swap}
 use Rattle.m4_perm.specs.Perm.{AreSwaps}
 use Rattle.m4_perm.proofs.OrderLemmas.{exchange_step, exchange_done}
 

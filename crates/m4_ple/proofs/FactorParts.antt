@@ -1,25 +1,25 @@
 -- The factors that stand in place of a matrix, put together row by row.
-use Rattle.std.proofs.Common.{Bool, true, false, ◌≡◌, ◌≢◌, ℕ, ◌+◌, ◌-◌, ◌<◌, ◌≤◌, ◌⊎◌, inl, inr, ⊎_elim, refl, sym, ◌∙◌, ap, ap₂, arith, List, length, slice_index, get_or, take, drop, ◌++◌, bit_xor, nat_lt, nat_le, ◌&&◌, if◌then◌else◌, ◌==◌, length-append, length-take, length-drop, get_or-take, get_or-drop}
+use Rattle.std.proofs.Common.{Bool, true, false, ◌≡◌, ◌≢◌, ℕ, ◌+◌, ◌-◌, ◌<◌, ◌≤◌, ◌⊎◌, inl, inr, ⊎_elim, refl, sym, ◌∙◌, ap, ap₂, arith, List, length, slice_index, get_or, take, drop, bit_xor, nat_lt, nat_le, ◌&&◌, if◌then◌else◌, ◌==◌, length-append, length-take, length-drop, get_or-take, get_or-drop}
 use Rattle.std.specs.Int.Bits.{xor_zero_l}
 use Rattle.std.proofs.lemmas.Bool.{cases_lt, cases_eq, eq-eqb, ne_eqb, lt-ltb, le-ltb, le-leb, lt-leb}
-use Rattle.std.proofs.lemmas.List.{ext_get_or, get_or_append_left, get_or-append_right, get_or-set_same}
-use Rattle.m4_model.specs.Field.{Field, gf2}
+use Rattle.std.proofs.lemmas.List.{ext_get_or, get_or_append_left, get_or-append_right}
+use Rattle.m4_model.specs.Field.{gf2}
 use Rattle.m4_model.specs.Matrix.{Matrix, IsMatrix, HasShape, row, row_sum, at, matrix_of, with_row, zero_matrix, identity}
 use Rattle.m4_model.specs.Shapes.{cut, replace}
 use Rattle.m4_model.specs.Factors.{IsUnitLower, Stored, StoredPluq}
 use Rattle.m4_model.specs.Rank.{IsRising}
-use Rattle.m4_model.proofs.MatrixLemmas.{at-table, length-table, length-row-table}
+use Rattle.m4_model.proofs.MatrixLemmas.{at-table}
 use Rattle.m4_model.proofs.ProductLemmas.{unit_at, unit_at-other}
 use Rattle.m4_model.proofs.SumLemmas.{xor_off}
-use Rattle.m4_model.proofs.ShapeLemmas.{same_from_entries, HasShape-own}
+use Rattle.m4_model.proofs.ShapeLemmas.{same_from_entries}
 use Rattle.m4_model.proofs.FactorLemmas.{at-stored_lower, at-stored_pluq_lower, at-stored_pluq_upper}
-use Rattle.m4_model.proofs.ExchangeLemmas.{rising-at_least, rising_room}
+use Rattle.m4_model.proofs.ExchangeLemmas.{rising_room}
 use Rattle.m4_mzd.specs.Rows.{sum_from}
 use Rattle.m4_mzd.proofs.RowLemmas.{length-row_sum, get_or-row_sum}
 use Rattle.m4_ple.specs.Elimination.{lower_part}
-use Rattle.m4_ple.specs.Parts.{sum_before, below_added_entry, below_added, echelon_entry, echelon_part, triangle_entry, triangle_part}
+use Rattle.m4_ple.specs.Parts.{sum_before, below_added_entry, below_added, echelon_entry, triangle_entry, triangle_part}
 use Rattle.m4_ple.proofs.Clearing.{length-sum_from, sum_from-before, sum_from-after}
-use Rattle.m4_ple.proofs.RowByRow.{same_made_entries, done_to, done_to-more, at-done_later, row-done_later}
+use Rattle.m4_ple.proofs.RowByRow.{same_made_entries, done_to, done_to-more, row-done_later}
 
 -- the front of a row added, by adding the whole row and then its tail again
 module _ (c : ℕ) (xs ys : List ℕ) (same : length ys ≡ length xs) (within : c ≤ length xs) where

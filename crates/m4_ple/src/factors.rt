@@ -23,7 +23,8 @@ pub struct Factors {
     pub e: Mzd,
 }
 
-/// The factors L and E that a window holds after a PLE with these pivots.
+/// The factors L and E that a window holds after a PLE with these pivots. L is square, with as many rows as the window, and
+/// E is as large as the window. It refuses nothing, but memory may be wanting.
 pub fn ple_factors(alloc: Global, a: &Win, pivots: &[u32]) -> Result<Factors, NoMemory>
     requires rising { IsRising pivots.now }
     requires in_cols { (k : ℕ) → k < length pivots.now → slice_index pivots.now k < (shown a.now).cols }
@@ -41,7 +42,8 @@ pub fn ple_factors(alloc: Global, a: &Win, pivots: &[u32]) -> Result<Factors, No
     Ok(Factors { l, e })
 }
 
-/// The factors L and U that a window holds after a PLUQ of rank `r`.
+/// The factors L and U that a window holds after a PLUQ of rank `r`. L is square, with as many rows as the window, and U is
+/// as large as the window. It refuses nothing, but memory may be wanting.
 pub fn pluq_factors(alloc: Global, a: &Win, r: u32) -> Result<Factors, NoMemory>
     requires in_rows { r ≤ (shown a.now).rows }
     requires in_cols { r ≤ (shown a.now).cols }

@@ -1,23 +1,22 @@
 -- The basis that is read off the reduced form is that of the kernel.
-use Rattle.std.proofs.Common.{◌≡◌, ◌≢◌, ℕ, ◌+◌, ◌<◌, ◌≤◌, ◌⊎◌, inl, inr, ⊎_elim, refl, sym, ◌∙◌, ap, ap₂, subst, arith, List, length, slice_index, bit_xor, Contains, ◌==◌, if◌then◌else◌}
+use Rattle.std.proofs.Common.{◌≡◌, ◌≢◌, ℕ, ◌<◌, ◌≤◌, ⊎_elim, refl, sym, ◌∙◌, ap, ap₂, subst, arith, List, length, slice_index, bit_xor, Contains, ◌==◌, if◌then◌else◌}
 use Rattle.std.specs.Int.Bits.{xor_assoc, xor_comm, xor_self, xor_zero_l, xor_zero_r}
 use Rattle.std.proofs.lemmas.Bool.{cases_lt, cases_eq, cases_order, eq-eqb, ne_eqb}
-use Rattle.m4_model.specs.Field.{Field, IsElement, gf2, mul}
+use Rattle.m4_model.specs.Field.{Field, gf2, mul}
 use Rattle.m4_model.specs.Matrix.{Matrix, IsMatrix, HasShape, at, product, zero_matrix}
 use Rattle.m4_model.specs.Shapes.{transposed}
 use Rattle.m4_model.specs.Rank.{IsRising, ArePivots, IsFree}
-use Rattle.m4_model.specs.Forms.{IsReduced, IsKernel, AreFree}
+use Rattle.m4_model.specs.Forms.{IsKernel, AreFree}
 use Rattle.m4_model.proofs.FieldLaws.{FieldLaws}
 use Rattle.m4_model.proofs.Gf2Lemmas.{gf2_laws}
-use Rattle.m4_model.proofs.Polynomials.{xor_exchange}
 use Rattle.m4_model.proofs.SumLemmas.{sum_below-zero, sum_below-single, mul-zero_left}
 use Rattle.m4_model.proofs.ProductLemmas.{times, times-same, times-xor_right, times-unit_col, times-zero_col, times_assoc, unit_at, unit_at-same, unit_at-other}
-use Rattle.m4_model.proofs.ShapeLemmas.{HasShape-own, IsElement-shape, IsField-shape, at-product, at-transposed, at-zero_matrix, same_entries, HasShape-product, HasShape-transposed, HasShape-zero_matrix}
+use Rattle.m4_model.proofs.ShapeLemmas.{HasShape-own, IsElement-shape, at-product, at-transposed, at-zero_matrix, same_entries, HasShape-product, HasShape-transposed, HasShape-zero_matrix}
 use Rattle.m4_model.proofs.EchelonLemmas.{place_of, Contains-entry}
 use Rattle.m4_model.proofs.RankLemmas.{Contains_none}
 use Rattle.m4_model.proofs.FormLemmas.{pivots_of_reduced}
 use Rattle.m4_solve.specs.Reduction.{IsReducedAt}
-use Rattle.m4_solve.specs.Kernel.{AreOthers, IsKernelRow, IsKernelBasis}
+use Rattle.m4_solve.specs.Kernel.{AreOthers, IsKernelBasis}
 
 -- a number of a rising list stands in one place
 rising_apart : (g : List ℕ) (i t : ℕ) → IsRising g → i < length g → t < length g → i ≢ t → slice_index g t ≢ slice_index g i

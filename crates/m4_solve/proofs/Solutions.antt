@@ -1,8 +1,8 @@
 -- A solution is read off the reduced form of the equations beside their right sides, or there is none.
-use Rattle.std.proofs.Common.{◌≡◌, ◌≢◌, ℕ, ◌+◌, ◌-◌, ◌<◌, ◌≤◌, ◌⊎◌, inl, inr, ⊎_elim, refl, sym, ◌∙◌, ap, ap₂, subst, arith, List, length, take, slice_index, Contains, ◌==◌, if◌then◌else◌}
-use Rattle.std.proofs.lemmas.Bool.{cases_lt, cases_eq, eq-eqb, ne_eqb}
-use Rattle.m4_model.specs.Field.{Field, IsElement, gf2, mul, sum_below}
-use Rattle.m4_model.specs.Matrix.{Matrix, IsMatrix, HasShape, at, matrix_of, identity, product}
+use Rattle.std.proofs.Common.{◌≡◌, ◌≢◌, ℕ, ◌+◌, ◌-◌, ◌<◌, ◌≤◌, ⊎_elim, refl, sym, ◌∙◌, ap, ap₂, subst, arith, List, length, take, slice_index}
+use Rattle.std.proofs.lemmas.Bool.{cases_lt, eq-eqb, ne_eqb}
+use Rattle.m4_model.specs.Field.{Field, gf2, mul}
+use Rattle.m4_model.specs.Matrix.{Matrix, IsMatrix, HasShape, at, identity, product}
 use Rattle.m4_model.specs.Shapes.{beside}
 use Rattle.m4_model.specs.Rank.{IsRising, IsFree, ArePivots}
 use Rattle.m4_model.specs.Forms.{IsReduced, IsInverse, Singular, IsSolution, NoSolution}
@@ -12,7 +12,7 @@ use Rattle.m4_model.proofs.SumLemmas.{sum_below-zero, sum_below-single, mul-zero
 use Rattle.m4_model.proofs.ProductLemmas.{times, times-same, times_assoc}
 use Rattle.m4_model.proofs.ShapeLemmas.{HasShape-own, IsElement-shape, at-product, same_entries, HasShape-product}
 use Rattle.m4_model.proofs.BlockLemmas.{at-beside_left, at-beside_right, HasShape-beside}
-use Rattle.m4_model.proofs.EchelonLemmas.{place_of, Contains-entry}
+use Rattle.m4_model.proofs.EchelonLemmas.{place_of}
 use Rattle.m4_model.proofs.FormLemmas.{pivots_of_reduced}
 use Rattle.m4_model.proofs.SingularLemmas.{singular_from_free, no_solution_from_unfree, inverse_from_right}
 use Rattle.m4_model.proofs.RankLemmas.{Contains_none}

@@ -1,6 +1,5 @@
 -- The entries above each pivot are cleared, column by column, and the rows span what they spanned.
-use Rattle.std.proofs.Common.{Bool, true, false, ◌≡◌, ◌≢◌, ℕ, ◌+◌, ◌<◌, ◌≤◌, ◌⊎◌, inl, inr, ⊎_elim, refl, sym, ◌∙◌, ap, ap₂, subst, arith, List, length, get_or, slice_index, map, bit_xor, nat_lt, ◌==◌, if◌then◌else◌}
-use Rattle.std.specs.List.{range_with_len}
+use Rattle.std.proofs.Common.{◌≡◌, ◌≢◌, ℕ, ◌+◌, ◌<◌, ◌≤◌, ⊎_elim, refl, sym, ◌∙◌, ap, subst, arith, List, length, get_or, slice_index, bit_xor, nat_lt, ◌==◌, if◌then◌else◌}
 use Rattle.std.specs.Int.Bits.{xor_lt, xor_self, xor_zero_r}
 use Rattle.std.proofs.Math.Pow.{pow_pos}
 use Rattle.std.proofs.lemmas.Bool.{cases_lt, cases_eq, eq-eqb, ne_eqb, lt-ltb, le-ltb}
@@ -18,7 +17,7 @@ use Rattle.m4_model.proofs.EchelonLemmas.{pivot_below}
 use Rattle.m4_model.proofs.EquivalenceLemmas.{RowEquivalent, RowEquivalent-refl, RowEquivalent-trans, equivalent_from_cleared}
 use Rattle.m4_mzd.specs.Rows.{sum_from}
 use Rattle.m4_ple.proofs.Clearing.{length-sum_from, sum_from-before, sum_from-after}
-use Rattle.m4_ple.proofs.RowByRow.{done_to, done_to-more, at-done_later, row-done_later}
+use Rattle.m4_ple.proofs.RowByRow.{done_to, done_to-more, at-done_later}
 use Rattle.m4_solve.specs.Reduction.{swept_entry, swept_row, swept}
 
 module _ (k c : ℕ) (W : Matrix) (i : ℕ) where

@@ -1,5 +1,4 @@
 -- What the calls of this crate answer.
-use Rattle.std.specs.Prelude.{ℕ}
 use Rattle.m4_model.specs.Matrix.{Matrix}
 use Rattle.m4_model.specs.Forms.{IsInverse, Singular, IsSolution, NoSolution}
 use Rattle.m4_solve.specs.declared.answers.Inverse.{Inverse}

@@ -15,7 +15,8 @@ use m4_model::NoMemory;
 use m4_mzd::{AddMul, Mzd, Win};
 use std::alloc::Global;
 
-/// A basis of the kernel of a matrix: as many rows as it has free columns, and the identity on these.
+/// A basis of the kernel of a matrix of any shape: as many rows as it has free columns, and the identity on these. It refuses
+/// nothing, but memory may be wanting.
 ///
 /// The matrix is brought to its reduced form. The row of a free column is read off that column: its entries go to the
 /// pivots.

@@ -16,7 +16,7 @@ use std::alloc::Global;
 
 /// Makes of the matrix its reduced row echelon form, and answers its rank. Where memory is wanting, the matrix is as it was.
 ///
-/// A PLE is made in place, its echelon form is kept, and the entries above the pivots are cleared.
+/// A PLE is made in place, its echelon form is kept, and the entries above the pivots are cleared. It refuses no shape.
 pub fn echelon<M: AddMul>(alloc: Global, a: &mut Mzd, ctx: &mut Ctx<M>) -> Result<u32, NoMemory>
     requires serves { Serves (M.limits ctx.old.engine) ctx.old.tables ctx.old.cutoff a.old.rows a.old.cols }
     ensures reduced { IfOk result (λ r. IsReduced a.new a.old) }
@@ -30,7 +30,8 @@ pub fn echelon<M: AddMul>(alloc: Global, a: &mut Mzd, ctx: &mut Ctx<M>) -> Resul
     Ok(room.reduce(a, ctx))
 }
 
-/// The rank of a matrix: the number of its pivots.
+/// The rank of a matrix of any shape: the number of its pivots, told by a PLE of a copy. It refuses nothing, but memory may
+/// be wanting.
 pub fn rank<M: AddMul>(alloc: Global, a: &Win, ctx: &mut Ctx<M>) -> Result<u32, NoMemory>
     requires serves { Serves (M.limits ctx.old.engine) ctx.old.tables ctx.old.cutoff (shown a.now).rows (shown a.now).cols }
     ensures rank { IfOk result (IsRank (shown a.now)) }

@@ -1,5 +1,6 @@
 -- A reader that is fed a text in pieces.
-use Rattle.std.proofs.Common.{◌≡◌, ℕ, ◌^◌, ◌≤◌, List, [], ◌++◌, length, Some, None, MatchOption, refl, sym, subst, inl, append_assoc, append-nil}
+use Rattle.std.proofs.Common.{◌≡◌, ℕ, ◌^◌, ◌≤◌, List, [], ◌++◌, length, Some, None, Result, Ok, Err, IfOk, IfErr, MatchOption, refl, sym, subst, ◌⊎◌, inl, inr, append_assoc, append-nil}
+use Rattle.std.proofs.lemmas.Result.{MatchResult-weaker}
 use Rattle.m4_model.specs.Matrix.{Matrix}
 use Rattle.m4_model.specs.Text.{BadAt, PastLimit}
 use Rattle.m4_model.specs.Texts.{TextForm, RefusalAs, ReadsAs}
@@ -10,6 +11,7 @@ use Rattle.m4_text.specs.Refused.{IsRefusedIn}
 use Rattle.m4_text.specs.Reader.{Collected, IsFaultOf, IsFaultOfAll, StandsFor}
 use Rattle.m4_text.proofs.Refusals.{length-text-le}
 use Rattle.m4_text.proofs.Bares.{length-bare-le}
+use Rattle.m4_text.proofs.Once.{never_both, one_fault}
 
 -- what is read has at most 2^29 bytes
 pub reads_short : (form : TextForm) (bytes : List ℕ) (M : Matrix) → ReadsAs form bytes M → length bytes ≤ 2 ^ 29
@@ -55,3 +57,18 @@ pub stands_more : (reader : Collected) (bytes piece : List ℕ) (fault : TextFau
     → StandsFor reader (bytes ++ piece)
 stands_more reader bytes piece fault is stands =
     stands_told reader (bytes ++ piece) fault is (all_more reader.form bytes piece fault (told reader bytes fault is stands))
+
+-- bytes that pass a limit are refused so, unless memory is wanting
+pub limit_told : (form : TextForm) (bytes : List ℕ) (result : Result Matrix TextFault) → IfOk result (ReadsAs form bytes) → IfErr result (IsFaultOf form bytes)
+    → RefusalAs form bytes PastLimit → (result ≡ Err Limit) ⊎ (result ≡ Err NoMemory)
+limit_told form bytes (Ok m) reads refused passed = absurd (never_both form bytes m PastLimit reads passed)
+limit_told form bytes (Err (Bad at)) reads refused passed =
+    let same : BadAt at ≡ PastLimit = one_fault form bytes (BadAt at) PastLimit refused passed in
+    absurd (cc)
+limit_told form bytes (Err Limit) reads refused passed = inl refl
+limit_told form bytes (Err NoMemory) reads refused passed = inr refl
+
+pub limit_refused : (form : TextForm) (bytes : List ℕ) (result : Result Matrix TextFault) → IfOk result (ReadsAs form bytes) → IfErr result (IsRefusedIn form bytes)
+    → RefusalAs form bytes PastLimit → (result ≡ Err Limit) ⊎ (result ≡ Err NoMemory)
+limit_refused form bytes result reads refused =
+    limit_told form bytes result reads (MatchResult-weaker result refused (λ _ _. tt) (λ fault. refused_itself form bytes fault))

@@ -1,6 +1,7 @@
-ghost use Rattle.std.specs.Prelude.{◌↔◌, ◌<◌, IsTrue, IfOk, IfErr};
+ghost use Rattle.std.specs.Prelude.{◌≡◌, ◌⊎◌, ◌↔◌, ◌<◌, IsTrue, Err, IfOk, IfErr};
 ghost use Rattle.m4_model.specs.Jcf.{IsZeroRow, CanBeJcf};
-ghost use Rattle.m4_model.specs.Texts.{can_hold, text_as, ReadsAs};
+ghost use Rattle.m4_model.specs.Text.{PastLimit};
+ghost use Rattle.m4_model.specs.Texts.{can_hold, text_as, ReadsAs, RefusalAs};
 ghost use Rattle.m4_io.specs.Outside.{WritesAll};
 ghost use Rattle.m4_text.specs.Forms.{text_form};
 ghost use Rattle.m4_text.specs.Refused.{IsRefusedIn};
@@ -28,10 +29,12 @@ pub enum Form {
 
 /// Reads the bytes as the text of one matrix in this form.
 ///
-/// A fault is that of the bytes. Where more than 2^29 of them are given, it is that of every file that begins with them.
+/// A fault is that of the bytes. Where more than 2^29 of them are given, it is that of every file that begins with them. A
+/// passed limit is told as such, unless memory is wanting.
 pub fn read_as(alloc: Global, form: Form, bytes: &[u8]) -> Result<Mzd, TextFault>
     ensures ok { IfOk result (ReadsAs (text_form form) bytes.now) }
     ensures err { IfErr result (IsRefusedIn (text_form form) bytes.now) }
+    ensures limit { RefusalAs (text_form form) bytes.now PastLimit → (result ≡ Err TextFault.Limit) ⊎ (result ≡ Err TextFault.NoMemory) }
 {
     match form {
         Form::Text => read_text(alloc, bytes),

@@ -1,5 +1,6 @@
-ghost use Rattle.std.specs.Prelude.{◌≡◌, ℕ, ◌^◌, ◌≤◌, List, [], ◌++◌, length, Some, None, Ok, Err, OnOk, IfOk, IfErr};
-ghost use Rattle.m4_model.specs.Texts.{ReadsAs};
+ghost use Rattle.std.specs.Prelude.{◌≡◌, ◌⊎◌, ℕ, ◌^◌, ◌<◌, ◌≤◌, List, [], ◌++◌, length, Some, None, Ok, Err, OnOk, IfOk, IfErr, IsErr};
+ghost use Rattle.m4_model.specs.Text.{PastLimit};
+ghost use Rattle.m4_model.specs.Texts.{ReadsAs, RefusalAs};
 ghost use Rattle.m4_text.specs.Forms.{text_form};
 ghost use Rattle.m4_text.specs.Reader.{Collected, StandsFor, IsFaultOf, IsFaultOfAll};
 ghost use Rattle.m4_text.specs.declared.fault.TextFault.{TextFault};
@@ -43,13 +44,15 @@ impl Reader {
         }
     }
 
-    /// Feeds the next bytes of the text.
+    /// Feeds the next bytes of the text. Where they are taken no fault is told. Where more than 2^29 bytes were fed, a fault is.
     ///
     /// A fault other than `NoMemory` is that of every file that begins with the bytes fed so far.
     pub fn feed(&mut self, piece: &[u8]) -> Result<(), TextFault>
         ensures form { self.new.form ≡ self.old.form }
         ensures stands { (bytes : List ℕ) → StandsFor self.old bytes → StandsFor self.new (bytes ++ piece.now) }
         ensures ok { OnOk result ((bytes : List ℕ) → StandsFor self.new bytes → length bytes ≤ 2 ^ 29) }
+        ensures quiet { OnOk result (self.new.fault ≡ None) }
+        ensures long { (bytes : List ℕ) → StandsFor self.old bytes → 2 ^ 29 < length (bytes ++ piece.now) → IsErr result }
         ensures err { IfErr result (λ fault. (bytes : List ℕ) → StandsFor self.new bytes
             → IsFaultOfAll self.old.form bytes fault) }
         ensures kept { IfErr result (λ fault. self.new.fault ≡ Some fault) }
@@ -71,6 +74,8 @@ impl Reader {
     pub fn finish(self) -> Result<Mzd, TextFault>
         ensures ok { IfOk result (λ m. (bytes : List ℕ) → StandsFor self bytes → ReadsAs self.form bytes m) }
         ensures err { IfErr result (λ fault. (bytes : List ℕ) → StandsFor self bytes → IsFaultOf self.form bytes fault) }
+        ensures limit { (bytes : List ℕ) → StandsFor self bytes → RefusalAs self.form bytes PastLimit
+            → (result ≡ Err TextFault.Limit) ⊎ (result ≡ Err TextFault.NoMemory) }
         ensures told { (fault : TextFault) → self.fault ≡ Some fault → result ≡ Err fault }
     {
         match self.fault {

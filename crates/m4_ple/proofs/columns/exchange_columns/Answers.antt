@@ -1,4 +1,4 @@
-use Rattle.std.proofs.Common.{◌≡◌, ◌∙◌, ap, arith, slice_index}
+use Rattle.std.proofs.Common.{◌∙◌, ap, arith, slice_index}
 use Rattle.m4_model.specs.Matrix.{with_row}
 use Rattle.m4_mzd.specs.Window.{Window, content, showing}
 use Rattle.m4_ple.specs.Columns.{exchanged_row}

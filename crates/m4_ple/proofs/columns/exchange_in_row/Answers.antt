@@ -1,4 +1,4 @@
-use Rattle.std.proofs.Common.{◌≡◌, ◌<◌, ℕ, ◌+◌, sym, ◌∙◌, ap, arith, List, [], length, drop, slice_index, get_or}
+use Rattle.std.proofs.Common.{◌≡◌, ◌<◌, ℕ, ◌+◌, sym, ◌∙◌, ap, arith, List, [], length, drop, slice_index}
 use Rattle.std.specs.List.{swap}
 use Rattle.std.proofs.lemmas.List.{length-set, get_or-set_same}
 use Rattle.m4_model.specs.Matrix.{row, with_row}

@@ -1,4 +1,4 @@
-use Rattle.std.proofs.Common.{◌≡◌, drop, length}
+use Rattle.std.proofs.Common.{◌≡◌, drop}
 use Rattle.m4_model.specs.Matrix.{row, with_row}
 use Rattle.m4_model.specs.Shapes.{exchanged}
 use Rattle.m4_mzd.specs.Window.{content, showing}

@@ -1,4 +1,4 @@
-use Rattle.std.proofs.Common.{◌≡◌, ◌∙◌, ap, if◌then◌else◌}
+use Rattle.std.proofs.Common.{◌∙◌, ap, if◌then◌else◌}
 use Rattle.m4_model.specs.Matrix.{with_entry}
 use Rattle.m4_mzd.specs.Window.{Window, content, showing}
 use Rattle.m4_ple.proofs.ExchangedColumns.{written_swapped}

@@ -1,8 +1,8 @@
-use Rattle.std.proofs.Common.{◌≡◌, ◌<◌, ℕ, sym, ◌∙◌, refl, ap, arith, slice_index, length, nat_lt, nat_le, ◌&&◌, if◌then◌else◌}
-use Rattle.m4_model.specs.Matrix.{Matrix, at, row, with_row}
+use Rattle.std.proofs.Common.{◌∙◌, refl, ap, arith}
+use Rattle.m4_model.specs.Matrix.{row, with_row}
 use Rattle.m4_mzd.specs.Window.{Window, content, showing}
 use Rattle.m4_ple.specs.Parts.{echelon_entry, echelon_part}
-use Rattle.m4_ple.proofs.RowByRow.{done_to, done_to-start, done_to-all}
+use Rattle.m4_ple.proofs.RowByRow.{done_to-start, done_to-all}
 use Rattle.m4_ple.proofs.Echelons.{echelon_part-more}
 use Rattle.m4_ple.proofs.echelon.keep_echelon.Goals as goal
 

@@ -1,5 +1,4 @@
-use Rattle.std.proofs.Common.{◌≡◌, ℕ, length, slice_index, nat_lt, nat_le, ◌&&◌, if◌then◌else◌}
-use Rattle.m4_model.specs.Matrix.{at}
+use Rattle.std.proofs.Common.{◌≡◌}
 use Rattle.m4_mzd.specs.Window.{content, showing}
 use Rattle.m4_ple.specs.Parts.{echelon_entry}
 use Rattle.m4_ple.proofs.RowByRow.{done_to}

@@ -1,4 +1,4 @@
-use Rattle.std.proofs.Common.{◌≡◌, ◌<◌, ◌≤◌, ℕ, sym, ◌∙◌, ap, ap₂, arith, List, [], length, replicate, drop, ◌++◌}
+use Rattle.std.proofs.Common.{◌≡◌, ◌∙◌, ap, ap₂, arith, [], replicate}
 use Rattle.std.proofs.lemmas.List.{get_or-set_same}
 use Rattle.m4_model.specs.Matrix.{Matrix, row, with_row}
 use Rattle.m4_mzd.specs.Window.{Window, content, showing}

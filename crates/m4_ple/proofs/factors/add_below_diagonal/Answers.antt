@@ -1,9 +1,9 @@
-use Rattle.std.proofs.Common.{◌≡◌, ◌<◌, ◌≤◌, ◌⊎◌, inl, inr, ⊎_elim, ℕ, sym, ◌∙◌, ap, arith}
-use Rattle.m4_model.specs.Matrix.{Matrix, row, with_row}
+use Rattle.std.proofs.Common.{◌≡◌, ◌<◌, ◌≤◌, ◌⊎◌, inl, inr, ◌∙◌, ap, arith}
+use Rattle.m4_model.specs.Matrix.{row, with_row}
 use Rattle.m4_mzd.specs.Window.{Window, content, showing}
 use Rattle.m4_mzd.specs.Seen.{shown}
 use Rattle.m4_ple.specs.Parts.{sum_before, below_added_entry}
-use Rattle.m4_ple.proofs.RowByRow.{done_to, done_to-start, done_to-all}
+use Rattle.m4_ple.proofs.RowByRow.{done_to-start}
 use Rattle.m4_ple.proofs.FactorParts.{below_added-more}
 use Rattle.m4_ple.proofs.factors.add_below_diagonal.Goals.{then-i-cols, else-i-cols}
 use Rattle.m4_ple.proofs.factors.add_below_diagonal.Goals as goal

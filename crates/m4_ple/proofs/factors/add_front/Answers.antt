@@ -1,6 +1,6 @@
-use Rattle.std.proofs.Common.{◌≡◌, ◌<◌, ◌≤◌, ℕ, sym, ◌∙◌, ap, ap₂, arith, List, [], length}
+use Rattle.std.proofs.Common.{◌≡◌, ◌≤◌, ℕ, ◌∙◌, ap, arith, List, [], length}
 use Rattle.std.proofs.lemmas.List.{get_or-set_same}
-use Rattle.m4_model.specs.Matrix.{Matrix, row, with_row}
+use Rattle.m4_model.specs.Matrix.{row, with_row}
 use Rattle.m4_mzd.specs.Window.{Window, content, showing}
 use Rattle.m4_mzd.specs.Seen.{shown}
 use Rattle.m4_mzd.specs.Rows.{sum_from}

@@ -1,5 +1,4 @@
-use Rattle.std.proofs.Common.{◌≡◌, ◌<◌, ◌≤◌, ℕ, sym, ◌∙◌, ap, arith}
-use Rattle.m4_model.specs.Field.{gf2}
+use Rattle.std.proofs.Common.{sym, ◌∙◌, ap, arith}
 use Rattle.m4_model.specs.Matrix.{Matrix, row, at, with_row}
 use Rattle.m4_model.proofs.MatrixLemmas.{at-table}
 use Rattle.m4_mzd.specs.Window.{Window, content, showing}

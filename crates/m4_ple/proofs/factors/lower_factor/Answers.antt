@@ -1,9 +1,9 @@
-use Rattle.std.proofs.Common.{◌≡◌, ◌<◌, ◌≤◌, ℕ, refl, sym, subst, ◌∙◌, ap, ap₂, arith, List, [], take, map, get_or, get_or-take}
+use Rattle.std.proofs.Common.{ℕ, sym, subst, ◌∙◌, ap, ap₂, arith, List, [], take, get_or, get_or-take}
 use Rattle.std.proofs.lemmas.List.{get_or-map}
 use Rattle.m4_model.specs.Field.{gf2}
 use Rattle.m4_model.specs.Matrix.{Matrix, at, row, identity}
 use Rattle.m4_model.specs.Shapes.{cut, replace}
-use Rattle.m4_mzd.specs.Window.{Window, content, showing}
+use Rattle.m4_mzd.specs.Window.{Window, content}
 use Rattle.m4_mzd.specs.Seen.{shown}
 use Rattle.m4_mzd.specs.Around.{IsAround}
 use Rattle.m4_mzd.specs.declared.rect.Rect.{Rect}

@@ -1,6 +1,6 @@
 use Rattle.std.proofs.Common.{ap}
 use Rattle.m4_model.specs.Matrix.{Matrix}
-use Rattle.std.proofs.Common.{refl, sym, ◌∙◌, arith, length}
+use Rattle.std.proofs.Common.{sym, ◌∙◌}
 use Rattle.m4_model.proofs.ShapeLemmas.{HasShape-own}
 use Rattle.m4_model.proofs.ExchangeLemmas.{rising_room}
 use Rattle.m4_mzd.specs.Seen.{shown}

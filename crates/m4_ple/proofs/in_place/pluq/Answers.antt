@@ -1,4 +1,4 @@
-use Rattle.std.proofs.Common.{◌≡◌, ◌≤◌, ◌<◌, ℕ, List, ◌∙◌, sym, subst, ap, ap₂, arith, take, length, length-take, slice_index}
+use Rattle.std.proofs.Common.{◌≡◌, ℕ, ◌∙◌, sym, subst, ap, arith, take, length, length-take}
 use Rattle.m4_model.specs.Matrix.{Matrix}
 use Rattle.m4_model.specs.Shapes.{swaps}
 use Rattle.m4_model.proofs.Gf2Lemmas.{gf2_laws}

@@ -1,7 +1,7 @@
-use Rattle.std.proofs.Common.{◌≡◌, ℕ, ◌+◌, sym, ◌∙◌, ap, arith}
-use Rattle.m4_model.specs.Matrix.{Matrix, with_row}
+use Rattle.std.proofs.Common.{◌∙◌, ap, arith}
+use Rattle.m4_model.specs.Matrix.{with_row}
 use Rattle.m4_mzd.specs.Window.{Window, content, showing}
-use Rattle.m4_ple.specs.Elimination.{cleared, cleared_row}
+use Rattle.m4_ple.specs.Elimination.{cleared_row}
 use Rattle.m4_ple.proofs.Clearing.{cleared-start, cleared-more}
 use Rattle.m4_ple.proofs.plain.clear_below.Goals as goal
 

@@ -1,8 +1,7 @@
-use Rattle.std.proofs.Common.{◌≡◌, ℕ, ◌+◌, sym, ◌∙◌, ap, arith, set, List}
-use Rattle.m4_model.specs.Matrix.{Matrix, row, with_row, with_entry}
+use Rattle.std.proofs.Common.{◌+◌, ◌∙◌, ap, arith}
+use Rattle.m4_model.specs.Matrix.{row, with_row, with_entry}
 use Rattle.m4_mzd.specs.Window.{Window, content, showing}
 use Rattle.m4_mzd.specs.Rows.{sum_from}
-use Rattle.m4_ple.specs.Elimination.{cleared_row}
 use Rattle.m4_ple.proofs.Clearing.{cleared_row-none, cleared_row-made, written_thrice, with_row-same}
 use Rattle.m4_ple.proofs.plain.clear_entry.Goals as goal
 

@@ -1,6 +1,5 @@
-use Rattle.std.proofs.Common.{◌≡◌, ℕ, ◌+◌, ◌<◌, ◌⊎◌, ⊎_elim, sym, ◌∙◌, ap, subst, arith, length, slice_set, swap, Fits, w32}
-use Rattle.m4_model.specs.Matrix.{Matrix}
-use Rattle.m4_mzd.specs.Window.{Window, content, showing}
+use Rattle.std.proofs.Common.{◌≡◌, ◌+◌, ◌<◌, ⊎_elim, sym, ◌∙◌, ap, subst, arith, length, slice_set, swap}
+use Rattle.m4_mzd.specs.Window.{Window, content}
 use Rattle.m4_ple.specs.Elimination.{IsEliminated, cleared}
 use Rattle.m4_ple.proofs.Eliminated.{eliminated_skip, eliminated_pivot}
 use Rattle.m4_ple.proofs.plain.eliminate_column.Goals as goal

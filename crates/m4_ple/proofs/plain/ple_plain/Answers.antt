@@ -1,6 +1,5 @@
-use Rattle.std.proofs.Common.{◌≡◌, ℕ, ◌<◌, sym, ◌∙◌, refl, ap, subst, arith, List, length}
+use Rattle.std.proofs.Common.{ℕ, sym, ◌∙◌, refl, ap, subst, arith, List}
 use Rattle.std.specs.List.{range_with_len}
-use Rattle.m4_model.specs.Matrix.{Matrix}
 use Rattle.m4_mzd.specs.Window.{Window, content, showing}
 use Rattle.m4_ple.specs.Elimination.{IsEliminated}
 use Rattle.m4_ple.proofs.Eliminated.{eliminated_start, eliminated_done, rank_reached}

@@ -1,4 +1,4 @@
-use Rattle.std.proofs.Common.{◌≡◌, ◌≤◌, length}
+use Rattle.std.proofs.Common.{◌≡◌, length}
 use Rattle.m4_mzd.specs.Window.{content, showing}
 use Rattle.m4_ple.specs.Elimination.{IsEliminated}
 use Rattle.m4_ple.proofs.plain.ple_plain.Given as goal

@@ -1,4 +1,4 @@
-use Rattle.std.proofs.Common.{◌≡◌, ◌+◌, ◌<◌, ◌≤◌, ℕ, ◌∙◌, refl, sym, ap, arith, length, slice_index}
+use Rattle.std.proofs.Common.{◌∙◌, ap, arith, length}
 use Rattle.m4_model.specs.Matrix.{Matrix, at}
 use Rattle.m4_model.proofs.MatrixLemmas.{at-table}
 use Rattle.m4_model.proofs.ExchangeLemmas.{rising_room}

@@ -1,5 +1,5 @@
-use Rattle.std.proofs.Common.{◌≡◌, ◌+◌, ◌<◌, ℕ, ◌∙◌, sym, subst, ap, arith, length, slice_index}
-use Rattle.m4_model.specs.Matrix.{Matrix, row, at, with_entry}
+use Rattle.std.proofs.Common.{◌+◌, ℕ, ◌∙◌, sym, subst, ap, arith, slice_index}
+use Rattle.m4_model.specs.Matrix.{Matrix, with_entry}
 use Rattle.m4_solve.proofs.KernelRows.{IsFilledTo, filled_start, filled_more, filled_all}
 use Rattle.m4_solve.proofs.basis.fill_row.Goals as goal
 

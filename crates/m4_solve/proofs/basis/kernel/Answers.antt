@@ -1,9 +1,8 @@
-use Rattle.std.proofs.Common.{◌≡◌, ◌<◌, ℕ, List, refl, ◌∙◌, sym, subst, ap, take, length, slice_index}
-use Rattle.m4_model.specs.Matrix.{Matrix, IsMatrix}
-use Rattle.m4_model.specs.Forms.{IsKernel}
+use Rattle.std.proofs.Common.{ℕ, refl, ◌∙◌, sym, subst, take}
+use Rattle.m4_model.specs.Matrix.{IsMatrix}
 use Rattle.m4_mzd.specs.Seen.{shown}
 use Rattle.m4_solve.specs.Reduction.{IsReducedAt}
-use Rattle.m4_solve.specs.Kernel.{AreOthers, IsKernelBasis}
+use Rattle.m4_solve.specs.Kernel.{AreOthers}
 use Rattle.m4_solve.proofs.Solutions.{pivots_seen, rising_at, columns_at, rows_at}
 use Rattle.m4_solve.proofs.KernelLemmas.{kernel_read}
 use Rattle.m4_solve.proofs.basis.kernel.Goals as goal

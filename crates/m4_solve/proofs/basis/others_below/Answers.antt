@@ -1,5 +1,5 @@
-use Rattle.std.proofs.Common.{◌≡◌, ◌+◌, ◌<◌, ◌++◌, [], ◌∷◌, ℕ, List, ◌∙◌, sym, subst, ap, ap₂, arith, length, slice_index}
-use Rattle.m4_solve.proofs.KernelRows.{ArePartedTo, parted_start, parted_pivot, parted_other, parted_all}
+use Rattle.std.proofs.Common.{◌+◌, ℕ, List, ◌∙◌, sym, subst, ap, arith}
+use Rattle.m4_solve.proofs.KernelRows.{ArePartedTo, parted_pivot, parted_other}
 use Rattle.m4_solve.proofs.basis.others_below.Goals.{then-next-rising+then-rising-next, else-next-rising+in_ok-push, else-next-rising-via-then-next-rising+else-rising-next, else-next-rising-via-else-next-rising}
 use Rattle.m4_solve.proofs.basis.others_below.Goals as goal
 

@@ -1,4 +1,4 @@
-use Rattle.std.proofs.Common.{◌≡◌, ◌≤◌, ℕ, List, ◌∙◌, sym, subst, ap, arith, take, length, length-take}
+use Rattle.std.proofs.Common.{ℕ, List, sym, subst, arith, take, length-take}
 use Rattle.m4_model.specs.Rank.{ArePivots}
 use Rattle.m4_model.proofs.FieldLaws.{FieldLaws}
 use Rattle.m4_model.proofs.Gf2Lemmas.{gf2_laws}

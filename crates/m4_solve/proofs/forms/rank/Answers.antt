@@ -1,4 +1,4 @@
-use Rattle.std.proofs.Common.{◌≡◌, ◌≤◌, ℕ, ◌∙◌, sym, subst, ap, arith, take, length, length-take}
+use Rattle.std.proofs.Common.{◌≡◌, ◌≤◌, ℕ, ◌∙◌, sym, subst, arith, take, length, length-take}
 use Rattle.m4_model.specs.Matrix.{Matrix, IsMatrix}
 use Rattle.m4_model.specs.Rank.{IsRank}
 use Rattle.m4_model.proofs.Gf2Lemmas.{gf2_laws}

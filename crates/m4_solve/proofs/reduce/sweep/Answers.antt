@@ -1,5 +1,4 @@
-use Rattle.std.proofs.Common.{◌≡◌, ◌+◌, ◌∙◌, refl, sym, subst, ap, arith, slice_index}
-use Rattle.m4_model.specs.Matrix.{Matrix}
+use Rattle.std.proofs.Common.{◌+◌, ◌∙◌, refl, sym, subst, ap, arith, slice_index}
 use Rattle.m4_model.proofs.ShapeLemmas.{HasShape-own}
 use Rattle.m4_mzd.specs.Window.{Window, content, showing}
 use Rattle.m4_solve.specs.Reduction.{swept}

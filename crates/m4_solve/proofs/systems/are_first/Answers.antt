@@ -1,4 +1,4 @@
-use Rattle.std.proofs.Common.{◌≡◌, ◌≢◌, ◌<◌, ◌≤◌, ℕ, ⊎_elim, arith, length, slice_index, nat_eq, false}
+use Rattle.std.proofs.Common.{◌≡◌, ◌≢◌, ◌<◌, ◌≤◌, ℕ, ⊎_elim, arith, length, slice_index}
 use Rattle.m4_solve.proofs.Risings.{first_missing, too_few}
 use Rattle.m4_solve.proofs.systems.are_first.Goals as goal
 

@@ -1,11 +1,9 @@
 use Rattle.std.proofs.Common.{◌≡◌, ◌+◌, ◌-◌, ◌≤◌, ℕ, ◌∙◌, refl, sym, subst, ap, arith, length, slice_index}
-use Rattle.m4_model.specs.Field.{gf2}
-use Rattle.m4_model.specs.Matrix.{Matrix, HasShape, row, at, with_row}
+use Rattle.m4_model.specs.Matrix.{Matrix, row, at, with_row}
 use Rattle.m4_model.proofs.MatrixLemmas.{at-table, length-table, length-row-table}
 use Rattle.m4_mzd.specs.Window.{Window, content, showing}
 use Rattle.m4_mzd.specs.Seen.{shown}
 use Rattle.m4_mzd.specs.Parts.{part, with_part}
-use Rattle.m4_solve.specs.Reduction.{IsReadOff}
 use Rattle.m4_solve.proofs.ReadOff.{IsReadTo, read_more}
 use Rattle.m4_solve.proofs.systems.copy_right_sides.Goals as goal
 

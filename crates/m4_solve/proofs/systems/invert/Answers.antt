@@ -1,10 +1,10 @@
-use Rattle.std.proofs.Common.{◌≡◌, ◌+◌, ◌≤◌, ◌<◌, ℕ, List, refl, ◌∙◌, sym, subst, ap, arith, take, length, slice_index}
+use Rattle.std.proofs.Common.{◌≡◌, ℕ, refl, ◌∙◌, subst, ap, arith, take}
 use Rattle.m4_model.specs.Field.{gf2}
-use Rattle.m4_model.specs.Matrix.{Matrix, HasShape, identity}
+use Rattle.m4_model.specs.Matrix.{Matrix, identity}
 use Rattle.m4_model.specs.Shapes.{beside}
 use Rattle.m4_model.proofs.Gf2Lemmas.{gf2_laws}
 use Rattle.m4_mzd.specs.Seen.{shown}
-use Rattle.m4_solve.specs.Reduction.{IsReducedAt, IsReadOff}
+use Rattle.m4_solve.specs.Reduction.{IsReadOff}
 use Rattle.m4_solve.proofs.Solutions.{pivots_seen, rising_at, rank_at, singular_at, inverse_at}
 use Rattle.m4_solve.proofs.systems.invert.Goals as goal
 

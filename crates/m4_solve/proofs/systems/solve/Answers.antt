@@ -1,11 +1,9 @@
-use Rattle.std.proofs.Common.{◌≡◌, ◌+◌, ◌≤◌, ◌<◌, ℕ, List, refl, ◌∙◌, sym, subst, ap, arith, take, length, slice_index}
+use Rattle.std.proofs.Common.{ℕ, refl, subst, arith, take}
 use Rattle.m4_model.specs.Matrix.{Matrix, HasShape}
-use Rattle.m4_model.specs.Shapes.{beside}
-use Rattle.m4_model.specs.Rank.{IsRising}
 use Rattle.m4_model.specs.Field.{gf2}
 use Rattle.m4_model.proofs.Gf2Lemmas.{gf2_laws}
 use Rattle.m4_mzd.specs.Seen.{shown}
-use Rattle.m4_solve.specs.Reduction.{IsReducedAt, IsReadOff}
+use Rattle.m4_solve.specs.Reduction.{IsReadOff}
 use Rattle.m4_solve.proofs.Solutions.{pivots_seen, rising_at, no_solution_at, solution_at}
 use Rattle.m4_solve.proofs.systems.solve.Goals as goal
 

@@ -1,5 +1,5 @@
-use Rattle.std.proofs.Common.{◌≡◌, ◌≤◌, ℕ, zero, suc, List, [], ◌∷◌, refl, ◌∙◌, sym, subst, ap, ap₂, take, drop, length, ◌++◌, arith}
-use Rattle.std.proofs.lemmas.List.{take-append-le, take_all}
+use Rattle.std.proofs.Common.{◌≡◌, ◌≤◌, ℕ, zero, suc, List, [], ◌∷◌, refl, ◌∙◌, sym, subst, ap, take, length, ◌++◌, arith}
+use Rattle.std.proofs.lemmas.List.{take-append-le}
 use Rattle.m4_model.specs.Matrix.{Matrix}
 use Rattle.m4_mzd.specs.Window.{Window, content}
 use Rattle.m4_solve.specs.Reduction.{IsReducedAt}

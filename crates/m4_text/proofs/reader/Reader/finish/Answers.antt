@@ -1,9 +1,9 @@
-use Rattle.std.proofs.Common.{◌≡◌, ap, sym, subst₂, ◌∙◌, None}
+use Rattle.std.proofs.Common.{◌≡◌, ap, sym, subst₂, ◌∙◌, None, Err}
 use Rattle.std.proofs.lemmas.Result.{MatchResult-weaker}
 use Rattle.m4_text.specs.Refused.{IsRefusedIn}
 use Rattle.m4_text.specs.Reader.{Collected}
 use Rattle.m4_text.specs.Forms.{text_form}
-use Rattle.m4_text.proofs.Readers.{told, untold, all_itself, refused_itself}
+use Rattle.m4_text.proofs.Readers.{told, untold, all_itself, refused_itself, limit_told}
 use Rattle.m4_text.proofs.reader.Reader.finish.Goals as goal
 
 pub returns-in-Some-clause-err : goal.returns-in-Some-clause-err
@@ -20,3 +20,7 @@ returns-clause-err c =
     MatchResult-weaker c.read_as.result c.read_as.ensures.err (λ _ _. tt) (λ fault refused bytes stands.
     refused_itself self.form bytes fault
     (subst₂ (λ f w. IsRefusedIn f w fault) form (kept ∙ untold self bytes none stands) refused))
+
+pub returns-in-Some-clause-limit : goal.returns-in-Some-clause-limit
+returns-in-Some-clause-limit c = λ bytes stands.
+    limit_told c.args.self.form bytes (Err c.in-Some.fault) tt (returns-in-Some-clause-err c bytes stands)
