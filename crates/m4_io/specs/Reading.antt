@@ -1,9 +1,14 @@
 -- What the reading of a whole file gives, and why it fails.
-use Rattle.std.specs.Prelude.{◌≡◌, ℕ, ◌<◌, ◌⊎◌, ◌↔◌, List, ◌++◌, length, Option, Some, None}
+use Rattle.std.specs.Prelude.{◌≡◌, ℕ, ◌<◌, ◌⊎◌, ◌↔◌, List, ◌++◌, length, Option, Some, None, codes}
 use Rattle.m4_model.specs.Outcome.{Stock, bytes_of}
 use Rattle.m4_io.specs.Outside.{Rose, Lacks}
 use Rattle.m4_io.specs.declared.whole.ReadFault.{ReadFault}
 use Rattle.m4_io.specs.declared.whole.ReadFault.TheVariants.{Failed, NoMemory}
+
+-- The words for a fault in reading a file.
+abbrev pub read_fault_text : ReadFault → List ℕ
+read_fault_text Failed = codes "read failed"
+read_fault_text NoMemory = codes "out of memory"
 
 -- The bytes are all, or they are more than the limit and the front of all.
 abbrev pub IsWholeOrLong : ℕ → List ℕ → List ℕ → Type 0

@@ -1,6 +1,6 @@
-ghost use Rattle.std.specs.Prelude.{◌≡◌, ◌≤◌, ◌<◌, ◌+◌, ◌^◌, IsTrue, OnOk, IfOk, IfErr, IsErrOf, vec_len};
+ghost use Rattle.std.specs.Prelude.{◌≡◌, ◌≤◌, ◌<◌, ◌+◌, ◌^◌, IsTrue, OnOk, IfOk, IfErr, IsErrOf, vec_len, Some};
 ghost use Rattle.m4_io.specs.Outside.{Lacks, WritesAll};
-ghost use Rattle.m4_io.specs.Reading.{IsFileOrLong, PassesAsFile, IsRestOrLong, IsReadCause, IsRestCause};
+ghost use Rattle.m4_io.specs.Reading.{read_fault_text, IsFileOrLong, PassesAsFile, IsRestOrLong, IsReadCause, IsRestCause};
 ghost use Rattle.m4_io.specs.declared.whole.ReadFault.TheVariants.{Failed as failed_fault, NoMemory as memory_fault};
 
 use crate::{Failed, Shelf, Sink};
@@ -18,6 +18,8 @@ pub enum ReadFault {
 }
 
 impl fmt::Display for ReadFault {
+    ghost output = { λ fault. Some (read_fault_text fault) };
+
     fn fmt<W: fmt::Write>(&self, f: &mut fmt::Formatter<W>) -> fmt::Result {
         match self {
             ReadFault::Failed => f.write_str("read failed"),

@@ -1,3 +1,4 @@
+ghost use Rattle.std.specs.Prelude.{Some, codes};
 ghost use Rattle.m4_model.specs.declared.no_memory.NoMemory.{NoMemory};
 
 use std::alloc::{AllocError, AllocFailed};
@@ -9,6 +10,8 @@ use std::fmt;
 pub struct NoMemory;
 
 impl fmt::Display for NoMemory {
+    ghost output = { λ _. Some (codes "out of memory") };
+
     fn fmt<W: fmt::Write>(&self, f: &mut fmt::Formatter<W>) -> fmt::Result {
         f.write_str("out of memory")
     }
