@@ -132,29 +132,29 @@ exchange-second r s = ⊎_elim
 pub exchange-other : (r s i : ℕ) → i ≢ r → i ≢ s → exchange r s i ≡ i
 exchange-other r s i first second = rw (ne_eqb i r first, ne_eqb i s second) refl
 
+-- what holds of a place and its exchanged place: of both that are exchanged, and of every other
+pub exchange_elim : (P : ℕ → ℕ → Type 0) (r s i : ℕ) → P r s → P s r → (i ≢ r → i ≢ s → P i i) → P i (exchange r s i)
+exchange_elim P r s i first second other = ⊎_elim
+    (λ (here : i ≡ r). rw (here, exchange-first r s) first)
+    (λ (not_first : i ≢ r). ⊎_elim
+    (λ (here : i ≡ s). rw (here, exchange-second r s) second)
+    (λ (not_second : i ≢ s). rw (exchange-other r s i not_first not_second) (other not_first not_second))
+    (cases_eq i s))
+    (cases_eq i r)
+
 -- below both nothing moves
 exchange-before : (r s i : ℕ) → r ≤ s → i < r → exchange r s i ≡ i
 exchange-before r s i order before = exchange-other r s i (λ same. absurd (omega (arith, same, before))) (λ same. absurd (omega (arith, same, before, order)))
 
 -- a number from r on stays so, and within n
 exchange-after : (r s i n : ℕ) → r ≤ s → s < n → r ≤ i → i < n → (r ≤ exchange r s i) × (exchange r s i < n)
-exchange-after r s i n order within from below = ⊎_elim
-    (λ (first : i ≡ r). rw (first, exchange-first r s) (order, within))
-    (λ (not_first : i ≢ r). ⊎_elim
-    (λ (second : i ≡ s). rw (second, exchange-second r s) (le_refl r, (let high : r < n = omega (arith, order, within) in high)))
-    (λ (not_second : i ≢ s). rw (exchange-other r s i not_first not_second) (from, below))
-    (cases_eq i s))
-    (cases_eq i r)
+exchange-after r s i n order within from below =
+    exchange_elim (λ _ k. (r ≤ k) × (k < n)) r s i (order, within) (le_refl r, (let high : r < n = omega (arith, order, within) in high)) (λ _ _. (from, below))
 
 -- an exchange of a list's entries
 pub at-swap : (p : List ℕ) (r s i : ℕ) → r < length p → s < length p → slice_index (swap p r s) i ≡ slice_index p (exchange r s i)
-at-swap p r s i below within = ⊎_elim
-    (λ (first : i ≡ r). rw (first, exchange-first r s) (at-swap_first p r s below within))
-    (λ (not_first : i ≢ r). ⊎_elim
-    (λ (second : i ≡ s). rw (second, exchange-second r s) (at-swap_second p r s below within))
-    (λ (not_second : i ≢ s). rw (exchange-other r s i not_first not_second) (at-swap_other p r s i below within not_first not_second))
-    (cases_eq i s))
-    (cases_eq i r)
+at-swap p r s i below within =
+    exchange_elim (λ i k. slice_index (swap p r s) i ≡ slice_index p k) r s i (at-swap_first p r s below within) (at-swap_second p r s below within) (at-swap_other p r s i below within)
 
 module _ {F : Field} {m n : ℕ} (laws : FieldLaws F) (r : ℕ) {L S : Matrix} (l : HasShape F m m L) (form : IsUnitLower r L) (s : HasShape F m n S) where
   -- an upper row of the product needs the upper rows of S alone

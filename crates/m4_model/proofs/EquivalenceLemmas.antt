@@ -24,7 +24,7 @@ pub record RowEquivalent (F : Field) (m : ℕ) (R A : Matrix) : Type 0 where
   pub unmade : A ≡ product back R
 
 -- a reduced matrix with the row space of A is its reduced form
-pub reduced_from_equivalent : (R A : Matrix) (q : List ℕ) → HasShape A.field A.rows A.cols R → Reduced R q
+abbrev pub reduced_from_equivalent : (R A : Matrix) (q : List ℕ) → HasShape A.field A.rows A.cols R → Reduced R q
     → RowEquivalent A.field A.rows R A → IsReduced R A
 reduced_from_equivalent R A q shape reduced same = record {
   shape = shape;

@@ -19,7 +19,7 @@ use Rattle.m4_model.proofs.ShapeLemmas.{at_shape, HasShape-own, HasShape-matrix_
 use Rattle.m4_model.proofs.SumLemmas.{mul-zero_left}
 use Rattle.m4_model.proofs.RingLemmas.{HasShape-one, IsElement-unit_at}
 use Rattle.m4_model.proofs.ExchangeLemmas.{rising_room}
-use Rattle.m4_model.proofs.EliminationLemmas.{IsPartial, ple_from_partial, partial_start, partial_skip, partial_swap, partial_pivot, exchange, exchange-first, exchange-second, exchange-other}
+use Rattle.m4_model.proofs.EliminationLemmas.{IsPartial, ple_from_partial, partial_start, partial_skip, partial_swap, partial_pivot, exchange, exchange-first, exchange-other, exchange_elim}
 use Rattle.m4_ple.specs.Elimination.{IsEliminated, lower_part, upper_part, cleared, cleared_entry, with_swapped}
 use Rattle.m4_ple.specs.Held.{HoldsPle}
 use Rattle.m4_ple.proofs.Clearing.{cleared-none, cleared-factor, cleared-column, cleared-before, cleared-after, at-cleared_other, at-cleared_row}
@@ -149,38 +149,17 @@ module _ {A W : Matrix} {p q : List ℕ} {r c : ℕ} (old : IsEliminated A p q r
 row_swap : (xs : List (List ℕ)) (r s i : ℕ) → r < length xs → s < length xs → get_or (swap xs r s) i [] ≡ get_or xs (exchange r s i) []
 row_swap xs r s i first second =
     let swapped = swapped_from_swap xs (swap xs r s) r s [] first second refl in
-    ⊎_elim
-    (λ (here : i ≡ r). rw (here, exchange-first r s) swapped.0)
-    (λ (not_first : i ≢ r). ⊎_elim
-    (λ (here : i ≡ s). rw (here, exchange-second r s) swapped.1)
-    (λ (not_second : i ≢ s). rw (exchange-other r s i not_first not_second) (swapped.2 i not_first not_second))
-    (cases_eq i s))
-    (cases_eq i r)
+    exchange_elim (λ i k. get_or (swap xs r s) i [] ≡ get_or xs k []) r s i swapped.0 swapped.1 (swapped.2 i)
 
 -- an exchange of rows stays within the matrix
-exchange-within : (r s i n : ℕ) → r < n → s < n → i < n → exchange r s i < n
-exchange-within r s i n first second below = ⊎_elim
-    (λ (here : i ≡ r). rw (here, exchange-first r s) second)
-    (λ (not_first : i ≢ r). ⊎_elim
-    (λ (here : i ≡ s). rw (here, exchange-second r s) first)
-    (λ (not_second : i ≢ s). rw (exchange-other r s i not_first not_second) below)
-    (cases_eq i s))
-    (cases_eq i r)
+pub exchange-within : (r s i n : ℕ) → r < n → s < n → i < n → exchange r s i < n
+exchange-within r s i n first second below = exchange_elim (λ _ k. k < n) r s i second first (λ _ _. below)
 
 -- a number above both stays, and one between stays between
 exchange-side : (r s i : ℕ) → r ≤ s → (i < r) ⊎ (r ≤ i) → ((i < r) × (exchange r s i ≡ i)) ⊎ ((r ≤ i) × (r ≤ exchange r s i))
 exchange-side r s i order (inl above) =
     inl (above, exchange-other r s i (λ same. absurd (omega (arith, same, above))) (λ same. absurd (omega (arith, same, above, order))))
-exchange-side r s i order (inr from) = inr (
-  from,
-  ⊎_elim
-      (λ (here : i ≡ r). rw (here, exchange-first r s) order)
-      (λ (not_first : i ≢ r). ⊎_elim
-      (λ (here : i ≡ s). rw (here, exchange-second r s) (let e : r ≤ r = omega arith in e))
-      (λ (not_second : i ≢ s). rw (exchange-other r s i not_first not_second) from)
-      (cases_eq i s))
-      (cases_eq i r),
-)
+exchange-side r s i order (inr from) = inr (from, exchange_elim (λ _ k. r ≤ k) r s i order (let e : r ≤ r = omega arith in e) (λ _ _. from))
 
 module _ {F : Field} {m n : ℕ} (W : Matrix) (w : HasShape F m n W) (r s : ℕ) (first : r < m) (second : s < m) where
   -- the entries after the exchange

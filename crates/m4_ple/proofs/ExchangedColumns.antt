@@ -1,7 +1,7 @@
 -- The columns of a PLE in place are exchanged row by row, and the factors of a PLUQ stand there.
-use Rattle.std.proofs.Common.{◌≡◌, ◌≢◌, ℕ, zero, suc, ◌+◌, ◌<◌, ◌≤◌, ⊎_elim, refl, sym, ◌∙◌, ap, ap₂, arith, List, [], ◌∷◌, length, slice_index, get_or, drop, set, nat_lt, nat_le, ◌&&◌, if◌then◌else◌, length-drop, get_or-drop}
+use Rattle.std.proofs.Common.{◌≡◌, ℕ, zero, suc, ◌+◌, ◌<◌, ◌≤◌, ⊎_elim, refl, sym, ◌∙◌, ap, ap₂, arith, List, [], ◌∷◌, length, slice_index, get_or, drop, set, nat_lt, nat_le, ◌&&◌, if◌then◌else◌, length-drop, get_or-drop}
 use Rattle.std.specs.List.{range_with_len, swap}
-use Rattle.std.proofs.lemmas.Bool.{cases_lt, cases_eq, lt-ltb, le-ltb, le-leb, lt-leb}
+use Rattle.std.proofs.lemmas.Bool.{cases_lt, lt-ltb, le-ltb, le-leb, lt-leb}
 use Rattle.std.proofs.lemmas.List.{ext_get_or, get_or-set_same, set-set}
 use Rattle.std.proofs.lemmas.List.Edits.{length-swap, swap_is}
 use Rattle.std.proofs.lemmas.List.FromFn.{length-range_with_len, get_or-range_with_len}
@@ -11,11 +11,12 @@ use Rattle.m4_model.specs.Factors.{IsPle, stored, stored_pluq}
 use Rattle.m4_model.proofs.FieldLaws.{FieldLaws}
 use Rattle.m4_model.proofs.MatrixLemmas.{length-row-table, at-table}
 use Rattle.m4_model.proofs.ExchangeLemmas.{exchanged-before, rising-at_least, rising_room}
-use Rattle.m4_model.proofs.EliminationLemmas.{exchange, exchange-first, exchange-second, exchange-other, at-swap}
+use Rattle.m4_model.proofs.EliminationLemmas.{exchange, exchange_elim, at-swap}
 use Rattle.m4_model.proofs.BlockLemmas.{at-picked_cols}
 use Rattle.m4_model.proofs.FactorLemmas.{upper_of_ple, pluq_of_ple}
 use Rattle.m4_perm.proofs.OrderLemmas.{exchange_step}
 use Rattle.m4_ple.proofs.RowByRow.{same_made_entries, row-done_later, done_to-more}
+use Rattle.m4_ple.proofs.Eliminated.{exchange-within}
 use Rattle.m4_ple.specs.Columns.{exchanged_row, with_exchanged}
 use Rattle.m4_ple.specs.Held.{HoldsPle, HoldsPluq}
 
@@ -42,22 +43,7 @@ length-exchanged i (s ∷ rest) xs = length-exchanged (suc i) rest (swap xs i s)
 
 -- the place that an exchange of two places from b on takes an entry from is from b on
 exchange-from : (b r s i : ℕ) → b ≤ r → b ≤ s → b ≤ i → b ≤ exchange r s i
-exchange-from b r s i first second from = ⊎_elim
-    (λ (here : i ≡ r). rw (here, exchange-first r s) second)
-    (λ (not_first : i ≢ r). ⊎_elim
-    (λ (here : i ≡ s). rw (here, exchange-second r s) first)
-    (λ (not_second : i ≢ s). rw (exchange-other r s i not_first not_second) from)
-    (cases_eq i s))
-    (cases_eq i r)
-
-exchange-below : (n r s i : ℕ) → r < n → s < n → i < n → exchange r s i < n
-exchange-below n r s i first second below = ⊎_elim
-    (λ (here : i ≡ r). rw (here, exchange-first r s) second)
-    (λ (not_first : i ≢ r). ⊎_elim
-    (λ (here : i ≡ s). rw (here, exchange-second r s) first)
-    (λ (not_second : i ≢ s). rw (exchange-other r s i not_first not_second) below)
-    (cases_eq i s))
-    (cases_eq i r)
+exchange-from b r s i first second from = exchange_elim (λ _ k. b ≤ k) r s i second first (λ _ _. from)
 
 -- lists of which one is made of the other from place b on stay so under exchanges of places from b on
 exchanged-made : (f : ℕ → ℕ) (b i : ℕ) (s xs ys : List ℕ) → length ys ≡ length xs → b ≤ i → i + length s ≤ length xs
@@ -78,7 +64,7 @@ exchanged-made f b i (s ∷ rest) xs ys long from room high within made j behind
     (λ j behind below.
     let inside : j < length xs = omega (arith, below, same_x) in
     at-swap ys i s j (omega (arith, low_i, long)) (omega (arith, low_s, long))
-    ∙ made (exchange i s j) (exchange-from b i s j from high_s behind) (exchange-below (length xs) i s j low_i low_s inside)
+    ∙ made (exchange i s j) (exchange-from b i s j from high_s behind) (exchange-within i s j (length xs) low_i low_s inside)
     ∙ ap f (sym (at-swap xs i s j low_i low_s)))
     j behind (omega (arith, below, same_x))
 
@@ -87,13 +73,7 @@ swap_equal : (xs : List ℕ) (i s : ℕ) → i < length xs → s < length xs →
 swap_equal xs i s below within same =
     ext_get_or 0 _ _ (length-swap xs i s) (λ k inside.
     at-swap xs i s k below within
-    ∙ ⊎_elim
-    (λ (here : k ≡ i). rw (here, exchange-first i s) (sym same))
-    (λ (not_first : k ≢ i). ⊎_elim
-    (λ (here : k ≡ s). rw (here, exchange-second i s) same)
-    (λ (not_second : k ≢ s). rw (exchange-other i s k not_first not_second) refl)
-    (cases_eq k s))
-    (cases_eq k i))
+    ∙ exchange_elim (λ k j. get_or xs j 0 ≡ get_or xs k 0) i s k (sym same) same (λ _ _. refl))
 
 -- exchanges of equal entries fall away
 exchanged-skip : (d k i : ℕ) (q xs : List ℕ) → k + d ≡ i → i ≤ length q → length q ≤ length xs

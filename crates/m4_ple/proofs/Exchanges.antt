@@ -1,12 +1,12 @@
 -- Exchanges of rows that are put down one by one, in a list that leaves everything as it is at first.
-use Rattle.std.proofs.Common.{◌≡◌, ◌≢◌, ℕ, zero, suc, ◌+◌, ◌<◌, ◌≤◌, ⊎_elim, sym, ◌∙◌, ap, ap₂, arith, List, length, get_or, drop, set}
+use Rattle.std.proofs.Common.{refl, ◌≡◌, ◌≢◌, ℕ, zero, suc, ◌+◌, ◌<◌, ◌≤◌, ⊎_elim, sym, ◌∙◌, ap, ap₂, arith, List, length, get_or, drop, set}
 use Rattle.std.specs.List.{range_with_len, swap}
 use Rattle.std.proofs.lemmas.Bool.{cases_lt, cases_eq}
 use Rattle.std.proofs.lemmas.List.{ext_get_or, length-set, get_or-set_same, get_or-set_other}
 use Rattle.std.proofs.lemmas.List.Edits.{length-swap}
 use Rattle.std.proofs.lemmas.List.FromFn.{length-range_with_len, get_or-range_with_len}
 use Rattle.m4_model.specs.Shapes.{exchanged, swaps}
-use Rattle.m4_model.proofs.EliminationLemmas.{exchange-first, exchange-other, at-swap}
+use Rattle.m4_model.proofs.EliminationLemmas.{exchange_elim, at-swap}
 use Rattle.m4_perm.specs.Perm.{AreSwaps}
 use Rattle.m4_perm.proofs.OrderLemmas.{exchange_step, exchange_done}
 
@@ -15,10 +15,7 @@ swap_itself : (xs : List ℕ) (i : ℕ) → i < length xs → swap xs i i ≡ xs
 swap_itself xs i below =
     ext_get_or 0 _ _ (length-swap xs i i) (λ k inside.
     at-swap xs i i k below below
-    ∙ ap (λ (j : ℕ). get_or xs j 0) (⊎_elim
-    (λ (here : k ≡ i). rw here (exchange-first i i))
-    (λ (away : k ≢ i). exchange-other i i k away away)
-    (cases_eq k i)))
+    ∙ exchange_elim (λ k j. get_or xs j 0 ≡ get_or xs k 0) i i k refl refl (λ _ _. refl))
 
 -- exchanges of entries with themselves
 all_stay : (fuel i : ℕ) (p order : List ℕ) → length p ≤ i + fuel → length p ≤ length order

@@ -4,7 +4,7 @@ use Rattle.m4_model.specs.Matrix.{Matrix, HasShape}
 use Rattle.m4_model.specs.Forms.{Echelon}
 use Rattle.m4_model.proofs.Gf2Lemmas.{gf2_laws}
 use Rattle.m4_model.proofs.ShapeLemmas.{HasShape-own}
-use Rattle.m4_model.proofs.EquivalenceLemmas.{RowEquivalent, RowEquivalent-trans, equivalent_of_ple}
+use Rattle.m4_model.proofs.EquivalenceLemmas.{RowEquivalent, RowEquivalent-trans, equivalent_of_ple, reduced_from_equivalent}
 use Rattle.m4_mzd.specs.Window.{Window, content}
 use Rattle.m4_ple.specs.Held.{HoldsPle}
 use Rattle.m4_ple.specs.Parts.{echelon_part}
@@ -46,17 +46,4 @@ returns-clause-reduced g c =
     let same : RowEquivalent gf2 A.rows R A
     = RowEquivalent-trans gf2_laws r_shape (HasShape-own A c.rows-rows.ensures.shape.matrix) swept
     (equivalent_of_ple A _ q _ held.l held.e gf2_laws c.rows-rows.ensures.shape.matrix held.factors) in
-    record {
-      form = record {
-        shape = r_shape;
-        pivots = q;
-        reduced = c.sweep.ensures.reduced;
-        to = same.to;
-        to_shape = same.to_shape;
-        made = same.made;
-        back = same.back;
-        back_shape = same.back_shape;
-        unmade = same.unmade;
-      };
-      at_pivots = refl;
-    }
+    record { form = reduced_from_equivalent R A q r_shape c.sweep.ensures.reduced same; at_pivots = refl }
