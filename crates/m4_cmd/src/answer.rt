@@ -63,7 +63,7 @@ fn write_line<O: Sink>(line: &Line, out: &mut O, status: Status) -> Status
     }
 }
 
-/// The status of an answer once its text was written.
+/// Done where the text was written, and else a write that failed.
 fn done_if(written: Result<(), WriteFault>) -> Status
     ensures { MatchResult written (λ _. result ≡ Status.Done) (λ _. result ≡ Status.Write) }
 {

@@ -12,7 +12,7 @@ use std::alloc::Global;
 /// The columns up to which a part of a matrix isn't halved.
 const CUTOFF: u32 = 2048;
 
-/// An engine and tables as they are chosen, and a cutoff, for matrices of so many columns.
+/// Tables as chosen, an engine by such tables whatever `--algo` says, and a cutoff, for matrices of so many columns.
 pub(crate) fn context(alloc: Global, choices: Choices, cols: u32) -> Result<Ctx<Table>, NoMemory>
     requires { cols ≤ 2 ^ 24 }
     ensures engine { IfOk result (λ ctx. ctx.engine.cols ≡ cols) }

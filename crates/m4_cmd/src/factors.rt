@@ -1,6 +1,6 @@
 //! The factors of a matrix: `ple` and `pluq`.
 
-ghost use Rattle.std.specs.Prelude.{◌≡◌, IfOk, IfErr, [], ◌∷◌, length};
+ghost use Rattle.std.specs.Prelude.{◌≡◌, ◌≤◌, ◌^◌, IfOk, IfErr, [], ◌∷◌, length};
 ghost use Rattle.m4_model.specs.Outcome.{HasAnswer};
 ghost use Rattle.m4_model.specs.Words.{Command};
 ghost use Rattle.m4_solve.specs.Context.{Serves};
@@ -12,6 +12,7 @@ use crate::answer::Answer;
 use crate::choices::Choices;
 use crate::context::context;
 use m4_model::{NoMemory, Status};
+use m4_mul::Table;
 use m4_mzd::{AddMul, Mzd};
 use m4_perm::Perm;
 use m4_ple::{Factors, ple, ple_factors, pluq, pluq_factors};
@@ -35,6 +36,34 @@ pub(crate) struct PluqFactors {
     pub(crate) rows: Perm,
     pub(crate) columns: Perm,
     pub(crate) factors: Factors,
+}
+
+/// What the factors of a matrix are made in.
+#[derive(Drop)]
+struct Room {
+    /// Room for the exchanges of rows.
+    exchanges: Vec<u32>,
+    /// Room for the pivot columns, or for the exchanges of columns.
+    pivots: Vec<u32>,
+    context: Ctx<Table>,
+}
+
+impl Room {
+    /// Room for a matrix of so many rows and columns.
+    fn new(alloc: Global, choices: Choices, rows: u32, cols: u32) -> Result<Room, NoMemory>
+        requires { cols ≤ 2 ^ 24 }
+        ensures exchanges { IfOk result (λ room. length room.exchanges.items ≡ rows) }
+        ensures pivots { IfOk result (λ room. length room.pivots.items ≡ rows) }
+        ensures engine { IfOk result (λ room. room.context.engine.cols ≡ cols) }
+        ensures tables { IfOk result (λ room. room.context.tables.entries.cols ≡ cols) }
+        ensures cutoff { IfOk result (λ room. 64 ≤ room.context.cutoff) }
+    {
+        Ok(Room {
+            exchanges: vec![in alloc; 0u32; rows as usize]?,
+            pivots: vec![in alloc; 0u32; rows as usize]?,
+            context: context(alloc, choices, cols)?,
+        })
+    }
 }
 
 /// The answer of `ple`, where the factor L is within the limits.
@@ -69,11 +98,14 @@ pub(crate) fn pluq_answer(alloc: Global, choices: Choices, a: Mzd) -> Result<Ans
 fn ple_of(alloc: Global, choices: Choices, a: Mzd) -> Result<PleFactors, NoMemory>
     ensures { IfOk result (IsPleOf a) }
 {
-    let rows = a.rows() as usize;
-    let mut exchanges = vec![in alloc; 0u32; rows]?;
-    let mut pivots = vec![in alloc; 0u32; rows]?;
-    let mut context = context(alloc, choices, a.cols())?;
-    Ok(ple_in_room(alloc, a, &mut exchanges, &mut pivots, &mut context)?)
+    let mut room = Room::new(alloc, choices, a.rows(), a.cols())?;
+    Ok(ple_in_room(
+        alloc,
+        a,
+        &mut room.exchanges,
+        &mut room.pivots,
+        &mut room.context,
+    )?)
 }
 
 /// A PLE of a matrix, with room for its exchanges and pivots.
@@ -112,11 +144,14 @@ fn ple_in_room<M: AddMul>(
 fn pluq_of(alloc: Global, choices: Choices, a: Mzd) -> Result<PluqFactors, NoMemory>
     ensures { IfOk result (IsPluqOf a) }
 {
-    let rows = a.rows() as usize;
-    let mut exchanges = vec![in alloc; 0u32; rows]?;
-    let mut pivots = vec![in alloc; 0u32; rows]?;
-    let mut context = context(alloc, choices, a.cols())?;
-    Ok(pluq_in_room(alloc, a, &mut exchanges, &mut pivots, &mut context)?)
+    let mut room = Room::new(alloc, choices, a.rows(), a.cols())?;
+    Ok(pluq_in_room(
+        alloc,
+        a,
+        &mut room.exchanges,
+        &mut room.pivots,
+        &mut room.context,
+    )?)
 }
 
 /// A PLUQ of a matrix, with room for its exchanges of rows and of columns.
