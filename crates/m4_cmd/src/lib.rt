@@ -18,8 +18,6 @@ mod program;
 mod progress;
 mod shape;
 mod systems;
-#[cfg(test)]
-mod tests;
 mod words;
 
 pub use choices::{Algo, Choices};

@@ -1,6 +1,9 @@
 //! The program m4lin: exact linear algebra over GF(2) on matrix files.
 #![tactic(auto)]
 
+#[cfg(test)]
+mod tests;
+
 use m4_cmd::{FileShelf, OpenGate, Status, StreamSink, run};
 use std::env::Env;
 use std::io::ErrorKind;

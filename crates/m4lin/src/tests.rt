@@ -4,7 +4,7 @@ ghost use Rattle.std.specs.Prelude.{◌<◌};
 mod questions;
 mod random;
 
-use crate::{MemShelf, MemSink, OpenGate, Status, run};
+use m4_cmd::{MemShelf, MemSink, OpenGate, Status, run};
 use m4_model::NoMemory;
 use std::alloc::{AllocError, Global};
 use std::process::Abort;

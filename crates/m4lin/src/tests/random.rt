@@ -1,7 +1,7 @@
 //! Random matrices and systems of equations: the answers meet their definitions, whatever engine is chosen.
 
 use super::{AMPLE, ENGINES, Outside, run_on};
-use crate::Status;
+use m4_cmd::Status;
 use m4_model::NoMemory;
 use rand_core::{Rng, SeedableRng};
 use rand_xoshiro::Xoshiro256PlusPlus;

@@ -1,7 +1,7 @@
 //! What is asked about a matrix, worked by hand.
 
 use super::{AMPLE, Outside, assert_ended, run_on};
-use crate::Status;
+use m4_cmd::Status;
 use std::test::Fail;
 
 /// What is asked about matrices, the texts of the operands, the status and the text of the answer.
