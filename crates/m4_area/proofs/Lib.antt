@@ -1,4 +1,5 @@
 pub mod Crosses
+pub mod Cuts
 pub mod Loans
 pub mod PartLemmas
 pub mod Parts
