@@ -4,6 +4,7 @@ pub mod Loans
 pub mod PartLemmas
 pub mod Parts
 pub mod RowLemmas
+pub mod RowWalks
 pub mod ShapeLemmas
 pub mod TiedLemmas
 pub mod Vecs

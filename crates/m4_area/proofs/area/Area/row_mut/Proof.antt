@@ -1,5 +1,5 @@
 -- `row_mut` lends one row's words, and the area follows them. Assumes `Logic`.
-use Rattle.std.proofs.Common.{◌≡◌, ℕ, ◌+◌, ◌*◌, ◌^◌, ◌<◌, List, [], ◌∷◌, ◌++◌, length, set, refl, sym, ap, ◌∙◌, arith, w64}
+use Rattle.std.proofs.Common.{◌≡◌, ℕ, ◌+◌, ◌*◌, ◌^◌, ◌<◌, List, [], ◌∷◌, length, set, refl, sym}
 use Rattle.std.proofs.mem.Facts.{says_two}
 use Rattle.std.proofs.raw_atomic.Walks.{proved_at}
 use Rattle.std.proofs.alloc.Calls.{Goes-blank}
@@ -7,16 +7,12 @@ use seplogic.Ra.Ura.{Ura}
 use base.Fraction.{full_share}
 use base.Logic.{ent, sep, id⊢}
 use base.Fml.{GName, Fml, ftrue, fsep, flft}
-use mir.Syntax.{named}
-use mir.Val.{Val, vint, vptr}
-use prog.Wp.{WpFn}
+use mir.Syntax.{mut, named}
+use mir.Val.{Val}
 use contract.Monad.{fact}
 use contract.Running.{tables}
 use types.Logic.{Logic, sem}
-use types.Kit.{Goal, ‵, raw, ◌⊛◌, some, later, prop, at_ret, ◌$◌, ◌∵◌, !, qed, move, drop, use1, use2, split, join, fsplit, fsplit3, fjoin, fpack, feq_l, flt_l, pick, await, group, regoal, rewrite, suffices, frame, done}
-use types.Part.{agg}
-use types.Run.{enter, returns, and_then, no_more, of_opd, bin, lit, first, blocks, exec}
-use types.ByLocal.{alloc_all, pass_all, free_all, look_at, get, sets, sets_last, env}
+use types.Kit.{updating, ‵, raw, ◌⊛◌, some, later, ◌$◌, ◌∵◌, !, qed, move, drop, use1, use2, split, join, fsplit, fsplit3, fjoin, fpack, feq_l, pick, await, group, rewrite, suffices, frame, done}
 use types.SemTy.{cells}
 use denote.Array.{Array}
 use denote.Builtin.{u64, usize, RawPtr}
@@ -26,16 +22,17 @@ use denote.FollowSlice.{Elements, lends_Elements}
 use denote.Index.{row, whole_in, whole_out}
 use denote.Memory.{cell_at, mem, part_of}
 use denote.RattleType.{owns}
-use denote.RawPtr.{block_ptr, count_of, ptr_val}
+use denote.RawPtr.{count_of}
 use denote.Signature.{plain, types_at, mut_ref_to}
 use denote.Slice.{MutSlice, slice_val}
-use denote.Steps.{nothing, heard, opens}
+use denote.Steps.{nothing, opens}
 use denote.Triple.Walked.{Stays, walk_of, stay_dropped, ends_at, Goes-spent_ref}
 use Rattle.m4_area.specs.Rows.{row_of}
 use Rattle.m4_area.specs.Strided.{IsRowAt, strided_owns}
 use Rattle.m4_area.specs.AreaLending.{row_left}
 use Rattle.m4_area.proofs.Parts.{other_rows, row_out, row_in}
 use Rattle.m4_area.proofs.RowLemmas.{refill_same}
+use Rattle.m4_area.proofs.RowWalks.{asks, makes_slice, updated}
 use Rattle.m4_area.proofs.Walks.{A, none, area_had, area_made}
 use Rattle.m4_area.specs.contracts.area.Area.row_mut as f
 use Rattle.m4_area.proofs.area.Area.row_mut.Statement.{statement}
@@ -87,48 +84,24 @@ row_mut_spec 𝓤 𝓛 𝓜 𝓡 wired =
     let b = h.block in
     let o = count_of from in
     let p = start * 8 + o in
-    let Within = r < length h.rows in
-    let At = IsRowAt h.block h.first h.step from start r in
-    let Wide = length xs ≡ n in
-    let Small = start + n < 2 ^ 60 in
-    qed 𝓛 (((‵ (flft κ q) ⊛ ‵ ftrue) ⊛ ‵ (owns (types_at f.signature.params y.0.0) a vss)) ∷ (raw (fact 𝓤 Within) ⊛ (raw (fact 𝓤 At) ⊛ (raw (fact 𝓤 Wide) ⊛ raw (fact 𝓤 Small)))) ∷ []) ∵
-    move ! (1 ∷ []) $ split ! $ heard ! Within (λ within. split ! $ heard ! At (λ at. split ! $ heard ! Wide (λ wide. heard ! Small (λ small. split ! $ split ! $ move ! (1 ∷ []) $ drop ! $ move ! (1 ∷ []) $
-    let here : from ≡ block_ptr b o = at.within in
-    let there : p ≡ h.first + r * h.step = omega (arith, at.byte) in
-    let byte_fits : start * 8 < 2 ^ 64 = omega arith in
-    let bytes_fit : length xs * 8 < 2 ^ 63 = omega arith in
-    let count_fits : length xs < 2 ^ 64 = omega arith in
+    qed 𝓛 (((‵ (flft κ q) ⊛ ‵ ftrue) ⊛ ‵ (owns (types_at f.signature.params y.0.0) a vss)) ∷ (raw (fact 𝓤 (r < length h.rows)) ⊛ (raw (fact 𝓤 (IsRowAt b h.first h.step from start r)) ⊛ (raw (fact 𝓤 (length xs ≡ n)) ⊛ raw (fact 𝓤 (start + n < 2 ^ 60))))) ∷ []) ∵
+    move ! (1 ∷ []) $ asks ! h from start r n (λ asked. split ! $ split ! $ move ! (1 ∷ []) $ drop ! $ move ! (1 ∷ []) $
     fsplit ! $ fsplit3 ! $ feq_l ! (λ is₀. move ! (2 ∷ []) $
-    fsplit ! $ feq_l ! (λ is₁. fsplit ! $ fsplit ! $ feq_l ! (λ is₂. flt_l ! (λ fits₂. fsplit ! $ fsplit ! $ feq_l ! (λ is₃. flt_l ! (λ fits₃. fsplit ! $ fsplit ! $ feq_l ! (λ is₄. flt_l ! (λ fits. drop ! $
-    let Words : List Val → List Val → List Val → List Val → List Val → Goal 𝓤 𝓛.H = λ us vs ws ts zs. prop (WpFn 𝓤 𝓛.H 𝓣.C 𝓣.Λ code.function (us ++ (vs ++ (ws ++ (ts ++ (zs ++ []))))) (W.post y)) in
-    let self = vptr rb ro ∷ [] in
-    regoal ! (λ us. Words us vss.1.0 vss.1.1.0 vss.1.1.1.0 vss.1.1.1.1.0) is₀ refl $
-    regoal ! (λ us. Words self us vss.1.1.0 vss.1.1.1.0 vss.1.1.1.1.0) (is₁ ∙ ap (λ z. ptr_val z ∷ []) here) refl $
-    regoal ! (λ us. Words self (vptr b o ∷ []) us vss.1.1.1.0 vss.1.1.1.1.0) is₂ refl $
-    regoal ! (λ us. Words self (vptr b o ∷ []) (vint w64 start ∷ []) us vss.1.1.1.1.0) is₃ refl $
-    regoal ! (λ us. Words self (vptr b o ∷ []) (vint w64 start ∷ []) (vint w64 r ∷ []) us) is₄ refl $
-    enter ! 𝓣.C 𝓣.Λ code.function (vptr rb ro ∷ vptr b o ∷ vint w64 start ∷ vint w64 r ∷ vint w64 n ∷ []) (W.post y) $
-    alloc_all ! (λ l. pass_all ! refl ((tt, tt), ((tt, tt), ((tt, record { fits = fits₂ }), ((tt, record { fits = fits₃ }), ((tt, record { fits = fits }), tt))))) $
-    first ! $ blocks ! $
-    sets ! (bin ! (get ! refl) (lit ! tt) (record { fits = byte_fits })) refl (tt, record { fits = byte_fits }) $
-    sets ! (bin ! (get ! refl) (get ! refl) tt) refl (tt, tt) $
-    sets_last ! (agg ! (and_then ! (get ! refl) (and_then ! (get ! refl) (no_more !)))) refl (tt, (tt, (record { fits = fits }, tt))) $
-    exec ! 𝓣.C 𝓣.Λ (env code.Mir.locals l) code.Mir.t-2 (at_ret (env code.Mir.locals l) (W.post y)) $
-    sets ! (of_opd ! (get ! refl)) refl (tt, (tt, (record { fits = fits }, tt))) $
+    makes_slice ! mut 𝓣.C 𝓣.Λ a.0.ref_ptr vss.0 a.1 vss.1 b o (W.post y) is₀ asked.here asked.byte_fits $ updating ! $
     -- [obs; bor; token]
     opens ! tt A rb ro (λ us. move ! (1 ∷ []) $ area_had ! h us (λ bare. rewrite ! 1 (λ ws. ‵ (cell_at full_share A.mir ws rb ro)) bare refl $
     -- [the rows; the area's cell; the open borrow; obs; auth]
-    use1 𝓛 (‵ (row u64 full_share xs b p) ⊛ ‵ (other_rows b h.step r h.rows h.first)) (row_out 𝓛 b h.step r h.rows h.first p within there) $ split ! $
+    use1 𝓛 (‵ (row u64 full_share xs b p) ⊛ ‵ (other_rows b h.step r h.rows h.first)) (row_out 𝓛 b h.step r h.rows h.first p asked.within asked.there) $ split ! $
     use1 𝓛 (‵ (cells (mem u64) xs b p)) (whole_in 𝓛 u64 xs b p) $ move ! (1 ∷ 2 ∷ []) $ fjoin ! $
     -- [the rest; the row; the open borrow; obs; auth]
     move ! (2 ∷ 3 ∷ 4 ∷ 1 ∷ 0 ∷ []) $ group ! 5 $
-    use1 𝓛 (later (some (λ (γ' : GName). raw (Elements 𝓛 A u64 (row_left h r) (named 0) κ q rb ro b p γ xs (count_fits, bytes_fit) (sem 𝓛 (Rest h r rb ro)) (back h r rb ro 𝓛 p within there) γ'))))
-    (lends_Elements 𝓛 A u64 (row_left h r) (named 0) κ q rb ro b p γ xs (count_fits, bytes_fit) (sem 𝓛 (Rest h r rb ro)) (back h r rb ro 𝓛 p within there) (A.coded.code h) (A.coded.code h)) $ await ! tt $ pick ! (λ γ'.
+    use1 𝓛 (later (some (λ (γ' : GName). raw (Elements 𝓛 A u64 (row_left h r) (named 0) κ q rb ro b p γ xs (asked.count_fits, asked.bytes_fit) (sem 𝓛 (Rest h r rb ro)) (back h r rb ro 𝓛 p asked.within asked.there) γ'))))
+    (lends_Elements 𝓛 A u64 (row_left h r) (named 0) κ q rb ro b p γ xs (asked.count_fits, asked.bytes_fit) (sem 𝓛 (Rest h r rb ro)) (back h r rb ro 𝓛 p asked.within asked.there) (A.coded.code h) (A.coded.code h)) $ await ! tt $ pick ! (λ γ'.
     use1 𝓛 (‵ ((MutSlice (named 0) κ u64).own_val (record { ref_ptr = (b, p); ghost_name = γ'; now = xs }) (slice_val (b, p) (length xs) ∷ [])) ⊛ (‵ (flft κ q) ⊛ ‵ (follows A (Array u64 0) γ γ' (row_left h r)))) (id⊢ 𝓤 _) $
     split ! $ move ! (1 ∷ []) $ split ! $ move ! (2 ∷ 0 ∷ 1 ∷ []) $
-    returns ! (look_at ! 0 refl) $ free_all ! refl $
+    updated ! $
     -- [the slice; the token; follows]
-    rewrite ! 0 (λ k. ‵ ((MutSlice (named 0) κ u64).own_val (record { ref_ptr = (b, p); ghost_name = γ'; now = xs }) (slice_val (b, p) k ∷ []))) wide refl $
+    rewrite ! 0 (λ k. ‵ ((MutSlice (named 0) κ u64).own_val (record { ref_ptr = (b, p); ghost_name = γ'; now = xs }) (slice_val (b, p) k ∷ []))) asked.wide refl $
     suffices ! _ (ends_at 𝓛 f.ended stayed c y (slice_val (b, p) n) (record { ref_ptr = (b, p); ghost_name = γ'; now = xs }) (tt, (tt, (tt, (tt, (tt, tt))))) (tt, (tt, (tt, (tt, (tt, tt)))))) $
     nothing ! $ nothing ! $ fjoin ! $ nothing ! $ fjoin ! $ nothing ! $ fjoin ! $ nothing ! $ fjoin ! $ nothing ! $ fjoin ! $ join ! $
-    nothing ! $ move ! (2 ∷ 0 ∷ []) $ join ! $ join ! $ frame ! $ says_two ! (refl, wide) $ done !)))))))))))))))))
+    nothing ! $ move ! (2 ∷ 0 ∷ []) $ join ! $ join ! $ frame ! $ says_two ! (refl, asked.wide) $ done !))))))
