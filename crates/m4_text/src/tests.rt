@@ -247,3 +247,25 @@ fn a_fault_is_told_again(rt: HostRuntime) {
         Err(found) => assert_eq!(rt; found, TextFault::Bad { at: 3 }),
     }
 }
+
+#[test]
+fn faults_are_told_in_words(rt: HostRuntime) -> Result<(), Fail> {
+    let alloc = rt.alloc();
+    let rows: [(TextFault, &str); 5] = [
+        (TextFault::Bad { at: 0 }, "bad text at byte 0"),
+        (TextFault::Bad { at: 76 }, "bad text at byte 76"),
+        (
+            TextFault::Bad { at: u64::MAX },
+            "bad text at byte 18446744073709551615",
+        ),
+        (TextFault::Limit, "limit passed"),
+        (TextFault::NoMemory, "out of memory"),
+    ];
+    for (fault, words) in rows {
+        let told = format!(in alloc; "{fault}")?;
+        assert_eq!(rt; told.as_str(), words);
+    }
+    let told = format!(in alloc; "{}", WriteFault::Failed)?;
+    assert_eq!(rt; told.as_str(), "write failed");
+    Ok(())
+}
