@@ -111,6 +111,7 @@ impl Pending {
     /// Makes room for the most bytes that are put at once: where there is less, all that wait go to the sink.
     fn make_room<O: Sink>(&mut self, sink: &mut O) -> Result<(), Failed>
         ensures room { OnOk result (length self.new + 64 ≤ 32768) }
+        ensures waits { length self.old + 64 ≤ 32768 → self.new ≡ self.old }
         ensures moved { Puts (O.taken sink.old) (O.taken sink.new) (O.faults sink.old) (O.faults sink.new)
             self.old self.new result [] }
     {
