@@ -97,6 +97,22 @@ fn assert_ended(rt: &impl Abort, ended: &Ended, status: Status, out: &[u8], err:
     assert_eq!(rt; ended.err.taken(), err.as_bytes());
 }
 
+/// A command, the texts of its operands A and B, and the status and the text that it ends with.
+type Case<'a> = (&'a [&'a str], &'a str, &'a str, Status, &'a str);
+
+/// Runs a command and sees what it ends with.
+fn assert_case(rt: &impl Abort, alloc: Global, case: Case<'_>) -> Result<(), NoMemory> {
+    let (words, a, b, status, answer) = case;
+    let ended = run_on(alloc, words, a.as_bytes(), b.as_bytes(), &AMPLE)?;
+    let asked = words.join(alloc, " ")?;
+    assert_eq!(rt;
+        (ended.status, ended.out.taken()),
+        (status, answer.as_bytes()),
+        "{asked} {a:?} {b:?}"
+    );
+    Ok(())
+}
+
 /// Options that choose how products are computed.
 const ENGINES: [&[&str]; 4] = [
     &[],
@@ -343,15 +359,13 @@ fn conversions(rt: HostRuntime) -> Result<(), Fail> {
     for (options, text, status, answer) in CONVERSIONS {
         let mut words = Vec::from_slice(rt.alloc(), &["convert", "A"])?;
         words.extend_from_slice(options)?;
-        let ended = run_on(rt.alloc(), &words, text.as_bytes(), b"", &AMPLE)?;
-        assert_eq!(rt; ended.status, status, "{text:?}");
-        assert_eq!(rt; ended.out.taken(), answer.as_bytes(), "{text:?}");
+        assert_case(&rt, rt.alloc(), (&words, text, "", status, answer))?;
     }
     Ok(())
 }
 
-/// Commands on the parts of matrices, the texts of their operands, the status and the text of their answer, all bare.
-const PARTS: [(&[&str], &str, &str, Status, &str); 17] = [
+/// Commands on the parts of matrices, with their texts bare.
+const PARTS: [Case<'static>; 17] = [
     (&["add", "A", "B"], "11\n", "01\n", Status::Done, "10\n"),
     (&["add", "A", "B"], "11\n", "0\n", Status::Shape, ""),
     (&["add", "A", "B"], "11\n", "01\n01\n", Status::Shape, ""),
@@ -436,13 +450,7 @@ fn parts(rt: HostRuntime) -> Result<(), Fail> {
     for (command, a, b, status, answer) in PARTS {
         let mut words = Vec::from_slice(rt.alloc(), command)?;
         words.extend_from_slice(&["--in=bare", "--out=bare"])?;
-        let ended = run_on(rt.alloc(), &words, a.as_bytes(), b.as_bytes(), &AMPLE)?;
-        assert_eq!(rt; ended.status, status, "{command:?} {a:?} {b:?}");
-        assert_eq!(rt;
-            ended.out.taken(),
-            answer.as_bytes(),
-            "{command:?} {a:?} {b:?}"
-        );
+        assert_case(&rt, rt.alloc(), (&words, a, b, status, answer))?;
     }
     Ok(())
 }
@@ -511,9 +519,7 @@ const REFUSALS: [(&str, &str, Status); 13] = [
 #[test]
 fn refusals(rt: HostRuntime) -> Result<(), Fail> {
     for (a, b, status) in REFUSALS {
-        let ended = run_on(rt.alloc(), &MUL, a.as_bytes(), b.as_bytes(), &AMPLE)?;
-        assert_eq!(rt; ended.status, status, "{a:?} {b:?}");
-        assert_eq!(rt; ended.out.taken().len(), 0);
+        assert_case(&rt, rt.alloc(), (&MUL, a, b, status, ""))?;
     }
     let ended = run_on(rt.alloc(), &MUL, b"gf2 1 1\n1\n", RIGHT, &AMPLE)?;
     assert_ended(

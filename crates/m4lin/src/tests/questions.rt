@@ -1,11 +1,11 @@
 //! What is asked about a matrix, worked by hand.
 
-use super::{AMPLE, Outside, assert_ended, run_on};
+use super::{AMPLE, Case, Outside, assert_case, assert_ended, run_on};
 use m4_cmd::Status;
 use std::test::Fail;
 
-/// What is asked about matrices, the texts of the operands, the status and the text of the answer.
-const QUESTIONS: [(&[&str], &str, &str, Status, &str); 26] = [
+/// What is asked about matrices.
+const QUESTIONS: [Case<'static>; 26] = [
     (&["rank", "A"], "gf2 0 5\n", "", Status::Done, "rank 0\n"),
     (
         &["rank", "A", "--out=jcf"],
@@ -180,14 +180,8 @@ const QUESTIONS: [(&[&str], &str, &str, Status, &str); 26] = [
 
 #[test]
 fn questions(rt: HostRuntime) -> Result<(), Fail> {
-    for (words, a, b, status, answer) in QUESTIONS {
-        let ended = run_on(rt.alloc(), words, a.as_bytes(), b.as_bytes(), &AMPLE)?;
-        assert_eq!(rt; ended.status, status, "{words:?} {a:?} {b:?}");
-        assert_eq!(rt;
-            ended.out.taken(),
-            answer.as_bytes(),
-            "{words:?} {a:?} {b:?}"
-        );
+    for case in QUESTIONS {
+        assert_case(&rt, rt.alloc(), case)?;
     }
     Ok(())
 }

@@ -47,8 +47,7 @@ fn answer(
         let mut chosen = Vec::from_slice(alloc, words)?;
         chosen.extend_from_slice(options)?;
         let ended = run_on(alloc, &chosen, a.as_bytes(), b.as_bytes(), &ROOMY)?;
-        assert_eq!(rt; ended.status, first.status);
-        assert_eq!(rt; ended.out.taken(), first.out.taken());
+        assert!(rt; ended.status == first.status && ended.out.taken() == first.out.taken());
     }
     let text = std::str::from_utf8(first.out.taken()).expect(rt, "a text");
     Ok((first.status, String::from_str(alloc, text)?))
@@ -63,7 +62,7 @@ fn done(
     b: &str,
 ) -> Result<String, NoMemory> {
     let (status, text) = answer(rt, alloc, words, a, b)?;
-    assert_eq!(rt; status, Status::Done, "{words:?}");
+    assert_eq!(rt; status, Status::Done);
     Ok(text)
 }
 
@@ -109,7 +108,7 @@ fn systems(rt: HostRuntime) -> Result<(), Fail> {
         let right = done(&rt, alloc, &["mul", "A", "B"], &a, &chosen)?;
         let solution = done(&rt, alloc, &["solve", "A", "B"], &a, &right)?;
         let product = done(&rt, alloc, &["mul", "A", "B"], &a, &solution)?;
-        assert_eq!(rt; product, right);
+        assert!(rt; product == right);
 
         let right = random(alloc, &mut source, shape.0, 1)?;
         let (status, solution) = answer(&rt, alloc, &["solve", "A", "B"], &a, &right)?;
@@ -118,7 +117,7 @@ fn systems(rt: HostRuntime) -> Result<(), Fail> {
         let more = rank_of(&rt, alloc, &both)?;
         if status == Status::Done {
             let product = done(&rt, alloc, &["mul", "A", "B"], &a, &solution)?;
-            assert_eq!(rt; product, right);
+            assert!(rt; product == right);
             assert_eq!(rt; more, rank);
         } else {
             assert_eq!(rt; status, Status::No);
@@ -138,7 +137,7 @@ fn forms(rt: HostRuntime) -> Result<(), Fail> {
         let rank = rank_of(&rt, alloc, &a)?;
         let form = done(&rt, alloc, &["echelon", "A"], &a, "")?;
         let both = done(&rt, alloc, &["stack", "A", "B"], &a, &form)?;
-        assert_eq!(rt; done(&rt, alloc, &["echelon", "A"], &form, "")?, form);
+        assert!(rt; done(&rt, alloc, &["echelon", "A"], &form, "")? == form);
         assert_eq!(rt; rank_of(&rt, alloc, &form)?, rank);
         assert_eq!(rt; rank_of(&rt, alloc, &both)?, rank);
 
@@ -161,7 +160,7 @@ fn inverses(rt: HostRuntime) -> Result<(), Fail> {
         let (status, inverse) = answer(&rt, alloc, &["inverse", "A"], &a, "")?;
         if status == Status::Done {
             let one = done(&rt, alloc, &["mul", "A", "B"], &a, &inverse)?;
-            assert_eq!(rt; done(&rt, alloc, &["mul", "A", "B"], &one, &a)?, a);
+            assert!(rt; done(&rt, alloc, &["mul", "A", "B"], &one, &a)? == a);
             assert_eq!(rt; rank_of(&rt, alloc, &one)?, u64::from(n));
         } else {
             assert_eq!(rt; status, Status::No);
@@ -249,11 +248,11 @@ fn assert_factors(
     assert_eq!(rt; lines.next(), None);
     let product = done(rt, alloc, &["mul", "A", "B"], &lower, &upper)?;
     if command == "pluq" {
-        assert_eq!(rt; product, reordered(rt, alloc, a, &rows, &columns)?);
+        assert!(rt; product == reordered(rt, alloc, a, &rows, &columns)?);
     } else {
         let mut order = Vec::new(alloc);
         order.extend(0..cols)?;
-        assert_eq!(rt; product, reordered(rt, alloc, a, &rows, &order)?);
+        assert!(rt; product == reordered(rt, alloc, a, &rows, &order)?);
     }
     Ok(columns)
 }
