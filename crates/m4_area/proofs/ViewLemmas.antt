@@ -1,10 +1,11 @@
 -- The parts of a part of a rectangle that is read.
-use Rattle.std.proofs.Common.{◌≡◌, ℕ, zero, suc, ◌+◌, ◌-◌, ◌≤◌, List, [], ◌∷◌, length, take, drop, map, arith, refl, sym, ap, ◌∙◌}
-use Rattle.std.proofs.lemmas.List.{take-map, drop-map, drop-take, drop-drop, take_all}
+use Rattle.std.proofs.Common.{◌≡◌, ℕ, zero, suc, ◌+◌, ◌-◌, ◌<◌, ◌≤◌, List, [], ◌∷◌, length, take, drop, map, arith, refl, sym, ap, ◌∙◌}
+use Rattle.std.proofs.lemmas.List.{length-take-le, length-drop, get_or-take, get_or-drop, get_or-map, take-map, drop-map, drop-take, drop-drop, take_all}
 use Rattle.std.proofs.lemmas.List.Elements.{All-weaker}
 use Rattle.std.proofs.lemmas.List.Folds.{map_fixed}
 use Rattle.std.proofs.lemmas.Simd.{map-map}
 use Rattle.m4_area.specs.Rectangle.{Rectangle, HasShape}
+use Rattle.m4_area.specs.Rows.{row_of}
 use Rattle.m4_area.specs.View.{part_of}
 
 take_front : {A : Type 0} (m n : ℕ) (xs : List A) → m ≤ n → take m (take n xs) ≡ take m xs
@@ -43,3 +44,11 @@ part_whole v s =
     let rows : take v.rows (drop 0 v.words) ≡ v.words = take_all v.rows v.words (omega (arith, s.count)) in
     ap (map (λ row. take v.width (drop 0 row))) rows
     ∙ map_fixed (λ row. take v.width (drop 0 row)) v.words (All-weaker (λ row. length row ≡ v.width) (λ row. take v.width (drop 0 row) ≡ row) (λ row e. take_all v.width row (omega arith)) v.words s.widths)
+
+pub part_row : (ws : List (List ℕ)) (a n r c d w : ℕ) (row : List ℕ) → r < n → a + n ≤ length ws → w ≡ d → row ≡ row_of ws (a + r)
+    → take w (drop c row) ≡ row_of (part_of ws a n c d) r
+part_row ws a n r c d w row below within wide is =
+    let part : List ℕ → List ℕ = λ words. take d (drop c words) in
+    let there : r < length (take n (drop a ws)) = omega (arith, length-take-le n (drop a ws) (omega (arith, length-drop a ws)), length-drop a ws) in
+    (λ i. take (wide i) (drop c (is i)))
+    ∙ sym (get_or-map part (take n (drop a ws)) r [] [] there ∙ ap part (get_or-take n (drop a ws) r [] below ∙ get_or-drop a ws r []))
