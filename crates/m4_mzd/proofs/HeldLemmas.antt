@@ -1,11 +1,11 @@
 -- A matrix that owns its words: what it is, and what it is once one of its rows is written.
-use Rattle.std.proofs.Common.{◌≡◌, ℕ, zero, suc, ◌+◌, ◌-◌, ◌*◌, ◌<◌, ◌≤◌, List, [], ◌∷◌, length, get_or, set, take, drop, map, replicate, refl, sym, ◌∙◌, ap, subst, arith}
+use Rattle.std.proofs.Common.{◌≡◌, ℕ, zero, suc, ◌+◌, ◌-◌, ◌*◌, ◌<◌, ◌≤◌, List, [], ◌∷◌, length, get_or, take, drop, map, replicate, refl, sym, ◌∙◌, ap, subst, arith}
 use Rattle.std.specs.List.{All}
 use Rattle.std.proofs.Math.Nat.{suc-mul}
 use Rattle.std.proofs.lemmas.List.{length-replicate, take-replicate, drop-replicate, get_or-replicate, get_or-drop, ext_get_or}
 use Rattle.std.proofs.lemmas.List.Elements.{All-from_get_or}
 use Rattle.m4_model.specs.Field.{gf2}
-use Rattle.m4_model.specs.Matrix.{Matrix, IsMatrix, at, row, zero_matrix}
+use Rattle.m4_model.specs.Matrix.{Matrix, IsMatrix, at, row, with_row, zero_matrix}
 use Rattle.m4_model.proofs.MatrixLemmas.{same_parts, same_table}
 use Rattle.m4_bits.specs.Bits.{bit}
 use Rattle.m4_area.specs.Rectangle.{Rectangle}
@@ -34,23 +34,17 @@ holds_held v cols r old A is h =
     let P : Matrix → Type 0 = λ B. r < B.rows → old ≡ row_of v.words r → Holds cols old (row B r) in
     subst P is (λ below was. holds_own v cols r old (window v cols) refl h.framed below was)
 
--- the matrix once a row of its words was written
-pub held_written : (v : Rectangle) (cols r : ℕ) (old new entries : List ℕ) (A : Matrix) → held v cols ≡ A → IsHeld v cols → r < A.rows → old ≡ row_of v.words r
-    → Wrote cols old new entries → held (record v { words = rows.with_row v.words r new }) cols ≡ record A { entries = set A.entries r entries }
-held_written v cols r old new entries A is h =
-    let P : Matrix → Type 0 = λ B. r < B.rows → old ≡ row_of v.words r → Wrote cols old new entries
-    → held (record v { words = rows.with_row v.words r new }) cols ≡ record B { entries = set B.entries r entries } in
-    subst P is (λ below was wrote. ap content (row_written v cols r old new entries (window v cols) refl h.framed below was wrote))
-
-pub IsHeld_written : (v : Rectangle) (cols r : ℕ) (old new entries : List ℕ) (A : Matrix) → held v cols ≡ A → IsHeld v cols → r < A.rows → old ≡ row_of v.words r
-    → Wrote cols old new entries → IsHeld (record v { words = rows.with_row v.words r new }) cols
-IsHeld_written v cols r old new entries A is h =
-    let P : Matrix → Type 0 = λ B. r < B.rows → old ≡ row_of v.words r → Wrote cols old new entries
-    → IsHeld (record v { words = rows.with_row v.words r new }) cols in
-    subst P is (λ below was wrote. record {
-      framed = framed_row v cols r new (window v cols) refl h.framed below;
-      padded = subst IsPadded (sym (row_written v cols r old new entries (window v cols) refl h.framed below was wrote)) h.padded;
-    })
+-- once a row of its words was written, the matrix is one still, and which it is
+pub held_written : {v : Rectangle} {cols r : ℕ} {old new entries : List ℕ} {A : Matrix} → held v cols ≡ A → IsHeld v cols → r < A.rows → old ≡ row_of v.words r
+    → (Holds cols old (row A r) → Wrote cols old new entries)
+    → IsHeld (record v { words = rows.with_row v.words r new }) cols × (held (record v { words = rows.with_row v.words r new }) cols ≡ with_row A r entries)
+held_written {v} {cols} {r} {old} {new} {entries} {A} is h below was writes =
+    let wrote : Wrote cols old new entries = writes (holds_held v cols r old A is h below was) in
+    let P : Matrix → Type 0 = λ B. r < B.rows
+    → IsHeld (record v { words = rows.with_row v.words r new }) cols × (held (record v { words = rows.with_row v.words r new }) cols ≡ with_row B r entries) in
+    subst P is (λ below.
+    let written = row_written v cols r old new entries (window v cols) refl h.framed below was wrote in
+    (record { framed = framed_row v cols r new (window v cols) refl h.framed below; padded = subst IsPadded (sym written) h.padded }, ap content written)) below
 
 -- rows of words that are 0
 rows_of_zeros : (n w m : ℕ) → m ≡ n * w → rows_of n w (replicate m 0) ≡ replicate n (replicate w 0)
