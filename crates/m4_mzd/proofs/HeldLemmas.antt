@@ -1,14 +1,14 @@
 -- A matrix that owns its words: what it is, and what it is once one of its rows is written.
-use Rattle.std.proofs.Common.{◌≡◌, ℕ, zero, suc, ◌+◌, ◌-◌, ◌*◌, ◌<◌, ◌≤◌, List, [], ◌∷◌, length, get_or, take, drop, map, replicate, refl, sym, ◌∙◌, ap, subst, arith}
+use Rattle.std.proofs.Common.{rules, ◌≡◌, ℕ, zero, suc, ◌+◌, ◌-◌, ◌*◌, ◌<◌, ◌≤◌, List, [], ◌∷◌, length, get_or, take, drop, map, replicate, refl, sym, ◌∙◌, ap, subst, arith}
 use Rattle.std.specs.List.{All}
 use Rattle.std.proofs.Math.Nat.{suc-mul}
-use Rattle.std.proofs.lemmas.List.{length-replicate, take-replicate, drop-replicate, get_or-replicate, get_or-drop, ext_get_or}
+use Rattle.std.proofs.lemmas.List.{nil_from_length, length-replicate, take-replicate, drop-replicate, get_or-replicate, get_or-drop, ext_get_or}
 use Rattle.std.proofs.lemmas.List.Elements.{All-from_get_or}
 use Rattle.m4_model.specs.Field.{gf2}
 use Rattle.m4_model.specs.Matrix.{Matrix, IsMatrix, at, row, with_row, zero_matrix}
 use Rattle.m4_model.proofs.MatrixLemmas.{same_parts, same_table}
 use Rattle.m4_bits.specs.Bits.{bit}
-use Rattle.m4_area.specs.Rectangle.{Rectangle}
+use Rattle.m4_area.specs.Rectangle.{Rectangle, HasShape}
 use Rattle.m4_area.specs.Rows.{row_of}
 use Rattle.m4_area.specs.Rows as rows
 use Rattle.m4_area.specs.Storage.{rows_of}
@@ -45,6 +45,15 @@ held_written {v} {cols} {r} {old} {new} {entries} {A} is h below was writes =
     subst P is (λ below.
     let written = row_written v cols r old new entries (window v cols) refl h.framed below was wrote in
     (record { framed = framed_row v cols r new (window v cols) refl h.framed below; padded = subst IsPadded (sym written) h.padded }, ap content written)) below
+
+-- a matrix of no rows and no columns
+pub held_none : (v : Rectangle) → HasShape v → v.rows ≡ 0 → v.width ≡ 0 → IsHeld v 0
+held_none v shape no_rows no_width =
+    let none : v.words ≡ [] = nil_from_length v.words (shape.count ∙ no_rows) in
+    record {
+      framed = record { shape = shape; wide = no_width; few_rows = omega arith; few_cols = omega arith };
+      padded = subst (λ ws. All (λ row. row ≡ replicate (length row) 0) (map (bits_past 0) ws)) (sym none) (search rules);
+    }
 
 -- rows of words that are 0
 rows_of_zeros : (n w m : ℕ) → m ≡ n * w → rows_of n w (replicate m 0) ≡ replicate n (replicate w 0)
