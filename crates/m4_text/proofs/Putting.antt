@@ -161,11 +161,11 @@ module _ (entries : List ℕ) (w word count : ℕ) (inside : 64 * w < length ent
       ∙ map-append (λ x. 48 + x) (take (64 * w) entries) (take 64 (drop (64 * w) entries))
       ∙ ap (λ l. digits_from (take (64 * w) entries) ++ l) word_digits
 
-  -- and the rest of the row
-  pub words_left : digits_from entries ≡ (digits_from (take (64 * w) entries) ++ digits_of word count) ++ digits_from (drop (64 * (w + 1)) entries)
-  words_left =
-      let front = take (64 * (w + 1)) entries in
-      let back = drop (64 * (w + 1)) entries in
-      ap digits_from (sym (take-append-drop (64 * (w + 1)) entries))
-      ∙ map-append (λ x. 48 + x) front back
-      ∙ ap (λ l. l ++ digits_from back) word_put
+-- digits that were put of a row's first entries, and those of the rest of the row
+pub row_left : (entries : List ℕ) (n : ℕ) {put : List ℕ} → digits_from (take n entries) ≡ put → digits_from entries ≡ put ++ digits_from (drop n entries)
+row_left entries n is =
+    let front = take n entries in
+    let back = drop n entries in
+    ap digits_from (sym (take-append-drop n entries))
+    ∙ map-append (λ x. 48 + x) front back
+    ∙ ap (λ l. l ++ digits_from back) is
