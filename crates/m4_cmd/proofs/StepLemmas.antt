@@ -1,6 +1,6 @@
 -- From each step of a run to the next: what a file's bytes give of the file, an operand of the operands, and these of
 -- the job.
-use Rattle.std.proofs.Common.{◌≡◌, ℕ, ◌+◌, ◌^◌, List, [], ◌∷◌, ◌++◌, length, Option, Result, Ok, Err, MatchResult, refl, sym, ◌∙◌, subst, arith, inl, inr, append-nil}
+use Rattle.std.proofs.Common.{◌≡◌, ℕ, ◌+◌, ◌^◌, List, [], ◌∷◌, ◌++◌, length, Option, Result, Ok, Err, MatchResult, refl, sym, ◌∙◌, subst, arith, inl, inr, ap, append_assoc, append-nil}
 use Rattle.std.specs.Io.KnownBytes.{Appends}
 use Rattle.m4_model.specs.Matrix.{Matrix}
 use Rattle.m4_model.specs.Text.{Fault, BadAt, PastLimit, IsWithinLimits}
@@ -13,7 +13,7 @@ use Rattle.m4_io.specs.Outside.{Rose, AppendsFront, WritesAll}
 use Rattle.m4_io.specs.Reading.{IsFileOrLong}
 use Rattle.m4_text.specs.Refused.{IsRefusalIn}
 use Rattle.m4_text.proofs.Readers.{reads_short}
-use Rattle.m4_cmd.specs.Steps.{IsReadAs, IsRefusedWith, TextFails, OperandFails, AreReadAs, OperandsFail, AnswerFails, Output, Change, NoReadFailed, Wrote, WriteGives, WritesLine, IsJobAnswer, JobGives, EndsUnwritten}
+use Rattle.m4_cmd.specs.Steps.{IsReadAs, IsRefusedWith, TextFails, OperandFails, AreReadAs, IsFirstRefused, IsFirstMissing, OperandsFail, AnswerFails, Output, Change, NoReadFailed, Wrote, WriteGives, WritesLine, IsJobAnswer, JobGives, EndsUnwritten}
 
 -- bytes that are read as a matrix are the whole file
 pub read_is_whole : (told : Option Stock) (form : TextForm) (name bytes : List ℕ) (M : Matrix) → IsFileOrLong told name (2 ^ 29) bytes → ReadsAs form bytes M → IsReadAs told form name M
@@ -77,6 +77,60 @@ operand_fails told form names name after Ms number before mid now Read read plac
 ]
 operand_fails told form names name after Ms number before mid now Write read place same fails = fails
 operand_fails told form names name after Ms number before mid now Memory read place same fails = fails ∙ same
+
+-- an operand has its place with more behind them too
+placed_more : (names before : List (List ℕ)) (name : List ℕ) (after more : List (List ℕ)) → names ≡ before ++ name ∷ after → names ++ more ≡ before ++ name ∷ (after ++ more)
+placed_more names before name after more place = ap (λ l. l ++ more) place ∙ append_assoc before (name ∷ after) more
+
+-- the first that is refused is so with more behind them
+first_refused_more : (told : Option Stock) (form : TextForm) (names more : List (List ℕ)) (operand : ℕ) (fault : Fault) → IsFirstRefused told form names operand fault
+    → IsFirstRefused told form (names ++ more) operand fault
+first_refused_more told form names more operand fault refused = λ files tells.
+    let first = refused files tells in
+    record {
+      before = first.before;
+      name = first.name;
+      after = first.after ++ more;
+      matrices = first.matrices;
+      bytes = first.bytes;
+      place = placed_more names first.before first.name first.after more first.place;
+      number = first.number;
+      accepted = first.accepted;
+      found = first.found;
+      refused = first.refused;
+    }
+
+-- the first that is missing is so with more behind them
+first_missing_more : (told : Option Stock) (form : TextForm) (names more : List (List ℕ)) → IsFirstMissing told form names → IsFirstMissing told form (names ++ more)
+first_missing_more told form names more (files, tells, first) = (
+  files,
+  tells,
+  record {
+    before = first.before;
+    name = first.name;
+    after = first.after ++ more;
+    matrices = first.matrices;
+    place = placed_more names first.before first.name first.after more first.place;
+    accepted = first.accepted;
+    missing = first.missing;
+  },
+)
+
+-- operands that fail do so with more behind them
+pub operands_fail_more : (told : Option Stock) (form : TextForm) (names more : List (List ℕ)) (before now : ℕ) (status : Status) → OperandsFail told form names before now status
+    → OperandsFail told form (names ++ more) before now status
+operands_fail_more told form names more before now Done fails = fails
+operands_fail_more told form names more before now No fails = fails
+operands_fail_more told form names more before now (Words word) fails = fails
+operands_fail_more told form names more before now (Text operand place) fails = (fails.0, first_refused_more told form names more operand (BadAt place) fails.1)
+operands_fail_more told form names more before now Shape fails = fails
+operands_fail_more told form names more before now Limit fails = (fails.0, (fails.1.0, first_refused_more told form names more fails.1.0 PastLimit fails.1.1))
+operands_fail_more told form names more before now Read fails = elim fails [
+  | inl rose ↦ inl rose
+  | inr missing ↦ inr (first_missing_more told form names more missing)
+]
+operands_fail_more told form names more before now Write fails = fails
+operands_fail_more told form names more before now Memory fails = fails
 
 -- no operands are accepted as none
 pub none_read : (told : Option Stock) (form : TextForm) → AreReadAs told form [] []

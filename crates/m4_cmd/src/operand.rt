@@ -83,8 +83,7 @@ pub(crate) fn read_three<S: Shelf>(
     ensures kept { OnOk result (S.faults shelf.new ≡ S.faults shelf.old) }
     ensures fails { IfErr result (OperandsFail (S.stock shelf.old) (text_form form) (a.now ∷ b.now ∷ c.now ∷ []) (S.faults shelf.old) (S.faults shelf.new)) }
 {
-    let first = read_operand(alloc, shelf, form, a, 1)?;
-    let second = read_operand(alloc, shelf, form, b, 2)?;
+    let (first, second) = read_two(alloc, shelf, form, a, b)?;
     let third = read_operand(alloc, shelf, form, c, 3)?;
     Ok((first, second, third))
 }
