@@ -2,4 +2,5 @@ pub mod WordsLemmas
 pub mod RunLemmas
 pub mod StepLemmas
 pub mod ProductLemmas
+pub mod FactorsLemmas
 mod PartLemmas
