@@ -1,4 +1,4 @@
-use Rattle.std.proofs.Common.{refl, ◌≡◌, ◌++◌, ◌∙◌, List, ℕ, ap, sym}
+use Rattle.std.proofs.Common.{◌≡◌, ◌++◌, ◌∙◌, List, ℕ, ap, sym}
 use Rattle.std.proofs.lemmas.Result.{err_from_is_err_and}
 use Rattle.m4_model.specs.Outcome.{numbers_line, rank_line}
 use Rattle.m4_cmd.specs.Factors.{rows_line}
