@@ -8,7 +8,7 @@ ghost use Rattle.m4_mzd.specs.Reach.{IsReached};
 ghost use Rattle.m4_trsm.specs.Triangles.{unit_lower, unit_upper};
 
 use crate::by_rows::solve_left;
-use crate::parts::{half, lower_parts, upper_parts};
+use crate::parts::{half, quarters};
 use crate::side::Side;
 use m4_mzd::{AddMul, Win, WinMut};
 
@@ -31,7 +31,7 @@ pub fn solve_lower_left<M: AddMul>(t: &Win, b: &mut WinMut, e: &mut M, cutoff: u
     }
     let _rows = b.rows();
     let cut = half(rows);
-    let (first, last, corner) = lower_parts(*t, cut);
+    let (first, _, corner, last) = quarters(*t, cut);
     let (mut top, mut bottom) = b.take().split_rows(cut);
     let (_above, _below) = (top.rows(), bottom.rows());
     solve_lower_left(&first, &mut top, e, cutoff);
@@ -60,7 +60,7 @@ pub fn solve_upper_left<M: AddMul>(t: &Win, b: &mut WinMut, e: &mut M, cutoff: u
     }
     let _rows = b.rows();
     let cut = half(rows);
-    let (first, last, corner) = upper_parts(*t, cut);
+    let (first, corner, _, last) = quarters(*t, cut);
     let (mut top, mut bottom) = b.take().split_rows(cut);
     let (_above, _below) = (top.rows(), bottom.rows());
     solve_upper_left(&last, &mut bottom, e, cutoff);

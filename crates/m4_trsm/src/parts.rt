@@ -19,34 +19,20 @@ pub fn half(rows: u32) -> u32
     words_for(rows) / 2 * 64
 }
 
-/// The first `k` rows and columns, the rows and columns behind them, and the corner below the first and left of the others.
-pub fn lower_parts<'a>(t: Win<'a>, k: u32) -> (Win<'a>, Win<'a>, Win<'a>)
+/// The parts of a square that is cut at row and column `k`: its first rows and columns, what is right of them, what is
+/// below them, and its last rows and columns.
+pub fn quarters<'a>(t: Win<'a>, k: u32) -> (Win<'a>, Win<'a>, Win<'a>, Win<'a>)
     requires square { (shown t).rows ≡ (shown t).cols }
     requires within { k ≤ (shown t).rows }
     requires whole_words { k % 64 ≡ 0 }
     ensures first { shown result.0 ≡ cut (shown t.entry) 0 0 k k }
-    ensures last { shown result.1 ≡ cut (shown t.entry) k k (shown t.entry).rows (shown t.entry).cols }
-    ensures corner { shown result.2 ≡ cut (shown t.entry) k 0 (shown t.entry).rows k }
+    ensures right { shown result.1 ≡ cut (shown t.entry) 0 k k (shown t.entry).cols }
+    ensures below { shown result.2 ≡ cut (shown t.entry) k 0 (shown t.entry).rows k }
+    ensures last { shown result.3 ≡ cut (shown t.entry) k k (shown t.entry).rows (shown t.entry).cols }
 {
     let _rows = t.rows();
     let (top, bottom) = t.split_rows(k);
-    let (first, _) = top.split_cols(k);
-    let (corner, last) = bottom.split_cols(k);
-    (first, last, corner)
-}
-
-/// The first `k` rows and columns, the rows and columns behind them, and the corner right of the first and above the others.
-pub fn upper_parts<'a>(t: Win<'a>, k: u32) -> (Win<'a>, Win<'a>, Win<'a>)
-    requires square { (shown t).rows ≡ (shown t).cols }
-    requires within { k ≤ (shown t).rows }
-    requires whole_words { k % 64 ≡ 0 }
-    ensures first { shown result.0 ≡ cut (shown t.entry) 0 0 k k }
-    ensures last { shown result.1 ≡ cut (shown t.entry) k k (shown t.entry).rows (shown t.entry).cols }
-    ensures corner { shown result.2 ≡ cut (shown t.entry) 0 k k (shown t.entry).cols }
-{
-    let _rows = t.rows();
-    let (top, bottom) = t.split_rows(k);
-    let (first, corner) = top.split_cols(k);
-    let (_, last) = bottom.split_cols(k);
-    (first, last, corner)
+    let (first, right) = top.split_cols(k);
+    let (below, last) = bottom.split_cols(k);
+    (first, right, below, last)
 }

@@ -8,7 +8,7 @@ ghost use Rattle.m4_mzd.specs.Reach.{IsReached};
 ghost use Rattle.m4_trsm.specs.Triangles.{unit_lower, unit_upper};
 
 use crate::by_rows::solve_right;
-use crate::parts::{half, lower_parts, upper_parts};
+use crate::parts::{half, quarters};
 use crate::side::Side;
 use m4_mzd::{AddMul, Win, WinMut};
 
@@ -31,7 +31,7 @@ pub fn solve_lower_right<M: AddMul>(t: &Win, b: &mut WinMut, e: &mut M, cutoff: 
     }
     let _cols = b.cols();
     let cut = half(cols);
-    let (first, last, corner) = lower_parts(*t, cut);
+    let (first, _, corner, last) = quarters(*t, cut);
     let (mut left, mut right) = b.take().split_cols(cut);
     let (_before, _behind) = (left.cols(), right.cols());
     solve_lower_right(&last, &mut right, e, cutoff);
@@ -60,7 +60,7 @@ pub fn solve_upper_right<M: AddMul>(t: &Win, b: &mut WinMut, e: &mut M, cutoff: 
     }
     let _cols = b.cols();
     let cut = half(cols);
-    let (first, last, corner) = upper_parts(*t, cut);
+    let (first, corner, _, last) = quarters(*t, cut);
     let (mut left, mut right) = b.take().split_cols(cut);
     let (_before, _behind) = (left.cols(), right.cols());
     solve_upper_right(&first, &mut left, e, cutoff);
