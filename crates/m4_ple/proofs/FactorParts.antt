@@ -17,7 +17,7 @@ use Rattle.m4_model.proofs.ExchangeLemmas.{rising_room}
 use Rattle.m4_mzd.specs.Rows.{sum_from}
 use Rattle.m4_mzd.proofs.RowLemmas.{length-row_sum, get_or-row_sum}
 use Rattle.m4_ple.specs.Elimination.{lower_part}
-use Rattle.m4_ple.specs.Parts.{sum_before, below_added_entry, below_added, echelon_entry, triangle_entry, triangle_part}
+use Rattle.m4_ple.specs.Parts.{sum_before, below_added_entry, below_added, tail_entry, triangle_entry, triangle_part}
 use Rattle.m4_ple.proofs.Clearing.{length-sum_from, sum_from-before, sum_from-after}
 use Rattle.m4_ple.proofs.RowByRow.{same_made_entries, done_to, done_to-more, row-done_later}
 
@@ -136,50 +136,48 @@ module _ (m r : ℕ) (W V : Matrix) (in_rows : r ≤ m) (same : (i j : ℕ) → 
       ∙ no_lower (nat_lt j i) (nat_lt j r) i j (at W i j) (le-ltb j r right))
       (cases_lt j r))
 
--- one row more of a matrix that is put into zeros from a column of each row on
-pub tail_made : (g : ℕ → ℕ → ℕ) (Z W : Matrix) (k c : ℕ) → IsMatrix Z → IsMatrix W → W.rows ≡ Z.rows → W.cols ≡ Z.cols → k < Z.rows → c ≤ Z.cols
-    → ((j : ℕ) → j < Z.cols → at Z k j ≡ 0) → ((j : ℕ) → j < c → g k j ≡ 0) → ((j : ℕ) → c ≤ j → g k j ≡ at W k j)
-    → with_row (done_to g Z k) k (sum_from c (row (done_to g Z k) k) (row W k)) ≡ done_to g Z (k + 1)
-tail_made g Z W k c z w rows cols inside within zeros before behind =
-    let own : row (done_to g Z k) k ≡ row Z k = row-done_later g Z z k k inside (omega arith) in
-    let wide = z.width k inside in
-    let wide_w = w.width k (omega (arith, inside, rows)) in
-    ap (λ (xs : List ℕ). with_row (done_to g Z k) k (sum_from c xs (row W k))) own
-    ∙ done_to-more g Z k (sum_from c (row Z k) (row W k)) inside (length-sum_from c (row Z k) (row W k) ∙ wide)
-    (λ j in_row. ⊎_elim
-    (λ (front : j < c). sum_from-before c j (row Z k) (row W k) (omega (arith, wide, within)) front ∙ zeros j in_row ∙ sym (before j front))
-    (λ (rest : c ≤ j). sum_from-after c j (row Z k) (row W k) (omega (arith, wide, wide_w, cols)) (omega (arith, wide, within)) rest
-    ∙ ap (λ (x : ℕ). bit_xor x (at W k j)) (zeros j in_row) ∙ xor_zero_l (at W k j) ∙ sym (behind j rest))
-    (cases_lt j c))
+-- rows that are kept from a column of each on
+module _ (n : ℕ) (c : ℕ → ℕ) (W : Matrix) where
+  pub tail_entry-before : (i j : ℕ) → i < n → j < c i → tail_entry n c W i j ≡ 0
+  tail_entry-before i j inside before = rw (lt-ltb i n inside, lt-leb (c i) j before) refl
 
--- the entries of the echelon form
-pub echelon_entry-before : (q : List ℕ) (W : Matrix) (i j : ℕ) → i < length q → j < slice_index q i → echelon_entry q W i j ≡ 0
-echelon_entry-before q W i j pivoted before = rw (lt-ltb i (length q) pivoted, lt-leb (slice_index q i) j before) refl
+  pub tail_entry-behind : (i j : ℕ) → i < n → c i ≤ j → tail_entry n c W i j ≡ at W i j
+  tail_entry-behind i j inside behind = rw (lt-ltb i n inside, le-leb (c i) j behind) refl
 
-pub echelon_entry-behind : (q : List ℕ) (W : Matrix) (i j : ℕ) → i < length q → slice_index q i ≤ j → echelon_entry q W i j ≡ at W i j
-echelon_entry-behind q W i j pivoted behind = rw (lt-ltb i (length q) pivoted, le-leb (slice_index q i) j behind) refl
+  pub tail_entry-past : (i j : ℕ) → n ≤ i → tail_entry n c W i j ≡ 0
+  tail_entry-past i j past = rw (le-ltb i n past) refl
 
-pub echelon_entry-past : (q : List ℕ) (W : Matrix) (i j : ℕ) → length q ≤ i → echelon_entry q W i j ≡ 0
-echelon_entry-past q W i j past = rw (le-ltb i (length q) past) refl
+  -- put into zeros
+  module _ (Z : Matrix) (zeros : Z ≡ zero_matrix gf2 W.rows W.cols) where
+    -- one row more
+    pub tail_put : (i : ℕ) → IsMatrix Z → IsMatrix W → i < n → i < W.rows → c i ≤ W.cols
+        → with_row (done_to (tail_entry n c W) Z i) i (sum_from (c i) (row (done_to (tail_entry n c W) Z i) i) (row W i)) ≡ done_to (tail_entry n c W) Z (i + 1)
+    tail_put i z w inside below within =
+        let g = tail_entry n c W in
+        let rows = ap (λ (M : Matrix). M.rows) zeros in
+        let cols = ap (λ (M : Matrix). M.cols) zeros in
+        let here : i < Z.rows = omega (arith, below, rows) in
+        let wide = z.width i here in
+        let wide_w = w.width i below in
+        let none : (j : ℕ) → j < Z.cols → get_or (row Z i) j 0 ≡ 0
+        = λ j in_row. ap (λ (M : Matrix). at M i j) zeros ∙ at-table W.rows W.cols (λ i j. 0) i j below (omega (arith, in_row, cols)) in
+        ap (λ (xs : List ℕ). with_row (done_to g Z i) i (sum_from (c i) xs (row W i))) (row-done_later g Z z i i here (omega arith))
+        ∙ done_to-more g Z i (sum_from (c i) (row Z i) (row W i)) here (length-sum_from (c i) (row Z i) (row W i) ∙ wide)
+        (λ j in_row. ⊎_elim
+        (λ (front : j < c i). sum_from-before (c i) j (row Z i) (row W i) (omega (arith, wide, within, cols)) front ∙ none j in_row ∙ sym (tail_entry-before i j inside front))
+        (λ (rest : c i ≤ j). sum_from-after (c i) j (row Z i) (row W i) (omega (arith, wide, wide_w, cols)) (omega (arith, wide, within, cols)) rest
+        ∙ ap (λ (x : ℕ). bit_xor x (at W i j)) (none j in_row) ∙ xor_zero_l (at W i j) ∙ sym (tail_entry-behind i j inside rest))
+        (cases_lt j (c i)))
 
--- and of the triangle
-pub triangle_entry-before : (r : ℕ) (W : Matrix) (i j : ℕ) → i < r → j < i → triangle_entry r W i j ≡ 0
-triangle_entry-before r W i j inside before = rw (lt-ltb i r inside, lt-leb i j before) refl
-
-pub triangle_entry-behind : (r : ℕ) (W : Matrix) (i j : ℕ) → i < r → i ≤ j → triangle_entry r W i j ≡ at W i j
-triangle_entry-behind r W i j inside behind = rw (lt-ltb i r inside, le-leb i j behind) refl
-
-pub triangle_entry-past : (r : ℕ) (W : Matrix) (i j : ℕ) → r ≤ i → triangle_entry r W i j ≡ 0
-triangle_entry-past r W i j past = rw (le-ltb i r past) refl
-
--- rows of zeros past the last that is put
-pub put_all_rows : (g : ℕ → ℕ → ℕ) (m n k : ℕ) → ((i j : ℕ) → k ≤ i → g i j ≡ 0)
-    → done_to g (zero_matrix gf2 m n) k ≡ matrix_of gf2 m n g
-put_all_rows g m n k past =
-    same_made_entries gf2 m n (λ i j. if nat_lt i k then g i j else at (zero_matrix gf2 m n) i j) g (λ i j below within. ⊎_elim
-    (λ (before : i < k). rw (lt-ltb i k before) refl)
-    (λ (later : k ≤ i). rw (le-ltb i k later) (at-table m n (λ i j. 0) i j below within ∙ sym (past i j later)))
-    (cases_lt i k))
+    -- all of them
+    pub tails_put : (k : ℕ) → n ≤ k → done_to (tail_entry n c W) Z k ≡ matrix_of gf2 W.rows W.cols (tail_entry n c W)
+    tails_put k all =
+        let g = tail_entry n c W in
+        ap (λ (M : Matrix). done_to g M k) zeros
+        ∙ same_made_entries gf2 W.rows W.cols (λ i j. if nat_lt i k then g i j else at (zero_matrix gf2 W.rows W.cols) i j) g (λ i j below within. ⊎_elim
+        (λ (before : i < k). rw (lt-ltb i k before) refl)
+        (λ (later : k ≤ i). rw (le-ltb i k later) (at-table W.rows W.cols (λ i j. 0) i j below within ∙ sym (tail_entry-past i j (omega (arith, later, all)))))
+        (cases_lt i k))
 
 -- a unit lower factor is told by what stands below its diagonal in its first columns
 lower_form : {m : ℕ} {L : Matrix} (W : Matrix) → HasShape gf2 m m L → (r : ℕ) → IsUnitLower r L → ((i j : ℕ) → i < m → j < i → j < r → at L i j ≡ at W i j)
@@ -218,9 +216,9 @@ upper_stored {m} {n} r L U W u field rows cols held =
     let u_cols = u.cols in
     sym (same_from_entries u (triangle_entry r W) (λ i j below within. ⊎_elim
     (λ (inside : i < r). ⊎_elim
-    (λ (before : j < i). held.u_zeros i j (omega (arith, below, u_rows)) (omega (arith, within, u_cols)) (inl before) ∙ sym (triangle_entry-before r W i j inside before))
-    (λ (behind : i ≤ j). sym (at-stored_pluq_upper u r L W held i j below within inside behind) ∙ sym (triangle_entry-behind r W i j inside behind))
+    (λ (before : j < i). held.u_zeros i j (omega (arith, below, u_rows)) (omega (arith, within, u_cols)) (inl before) ∙ sym (tail_entry-before r (λ i. i) W i j inside before))
+    (λ (behind : i ≤ j). sym (at-stored_pluq_upper u r L W held i j below within inside behind) ∙ sym (tail_entry-behind r (λ i. i) W i j inside behind))
     (cases_lt j i))
-    (λ (past : r ≤ i). held.u_zeros i j (omega (arith, below, u_rows)) (omega (arith, within, u_cols)) (inr past) ∙ sym (triangle_entry-past r W i j past))
+    (λ (past : r ≤ i). held.u_zeros i j (omega (arith, below, u_rows)) (omega (arith, within, u_cols)) (inr past) ∙ sym (tail_entry-past r (λ i. i) W i j past))
     (cases_lt i r))
     ∙ sym (λ k. matrix_of (field k) (rows k) (cols k) (triangle_entry r W)))
