@@ -1,5 +1,5 @@
 -- A solution is read off the reduced form of the equations beside their right sides, or there is none.
-use Rattle.std.proofs.Common.{◌≡◌, ◌≢◌, ℕ, ◌+◌, ◌-◌, ◌<◌, ◌≤◌, ⊎_elim, refl, sym, ◌∙◌, ap, ap₂, subst, arith, List, length, take, slice_index}
+use Rattle.std.proofs.Common.{◌≡◌, ◌≢◌, ℕ, ◌+◌, ◌-◌, ◌<◌, ◌≤◌, ⊎_elim, refl, sym, ◌∙◌, ap, ap₂, subst, arith, List, length, slice_index}
 use Rattle.std.proofs.lemmas.Bool.{cases_lt, eq-eqb, ne_eqb}
 use Rattle.m4_model.specs.Field.{Field, gf2, mul}
 use Rattle.m4_model.specs.Matrix.{Matrix, IsMatrix, HasShape, at, identity, product}
@@ -143,9 +143,9 @@ module _ {R M : Matrix} {q : List ℕ} (reduced : IsReducedAt R M q) where
       omega (arith, within, same, rows)
 
 -- the same for pivots and a matrix that are known by other names
-pub pivots_seen : (r : ℕ) (items seen : List ℕ) (R M N : Matrix) → seen ≡ items → M ≡ N → IsReducedAt R M (take r items) → IsReducedAt R N (take r seen)
-pivots_seen r items seen R M N same made reduced =
-    subst (λ (q : List ℕ). IsReducedAt R N q) (sym (ap (take r) same)) (subst (λ (M : Matrix). IsReducedAt R M (take r items)) made reduced)
+pub pivots_seen : (items seen : List ℕ) (R M N : Matrix) → seen ≡ items → M ≡ N → IsReducedAt R M items → IsReducedAt R N seen
+pivots_seen items seen R M N same made reduced =
+    subst (λ (q : List ℕ). IsReducedAt R N q) (sym same) (subst (λ (M : Matrix). IsReducedAt R M items) made reduced)
 
 module _ (A B R : Matrix) (q : List ℕ) (laws : FieldLaws A.field) (is_matrix : IsMatrix A) (b : HasShape A.field A.rows B.cols B) (over : A.field ≡ gf2)
     (reduced : IsReducedAt R (beside A B) q) where

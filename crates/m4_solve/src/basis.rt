@@ -10,7 +10,7 @@ ghost use Rattle.m4_solve.specs.Kernel.{AreOthers, IsKernelRow, IsKernelBasis};
 
 use crate::context::Ctx;
 use crate::forms::copied;
-use crate::room::Room;
+use crate::room::form_of;
 use m4_model::NoMemory;
 use m4_mzd::{AddMul, Mzd, Win};
 use std::alloc::Global;
@@ -27,12 +27,12 @@ pub fn kernel<M: AddMul>(alloc: Global, a: &Win, ctx: &mut Ctx<M>) -> Result<Mzd
     ensures tables { AreSameTables ctx.old.tables ctx.new.tables }
     ensures cutoff { ctx.new.cutoff ≡ ctx.old.cutoff }
 {
-    let mut reduced = copied(alloc, a)?;
-    let mut room = Room::new(alloc, reduced.rows(), reduced.cols())?;
-    let rank = room.reduce(&mut reduced, ctx) as usize;
-    let pivots = &room.pivots[..rank];
-    let free = others_below(alloc, pivots, reduced.cols())?;
-    Ok(basis_for(alloc, &reduced, pivots, &free)?)
+    let _cols = a.cols();
+    let copy = copied(alloc, a)?;
+    let form = form_of(alloc, copy, ctx)?;
+    let pivots = form.pivots.as_slice();
+    let free = others_below(alloc, pivots, form.matrix.cols())?;
+    Ok(basis_for(alloc, &form.matrix, pivots, &free)?)
 }
 
 /// The numbers below `n` that aren't among these rising ones.

@@ -1,4 +1,4 @@
-//! What a reduction needs beside the matrix.
+//! What a reduction needs beside the matrix, and the form that it makes.
 
 ghost use Rattle.std.specs.Prelude.{◌≡◌, ◌⊎◌, ◌≤◌, ◌<◌, ◌^◌, length, take, IfOk};
 ghost use Rattle.m4_solve.specs.Context.{Serves, AreSameTables};
@@ -14,7 +14,7 @@ use std::alloc::Global;
 #[derive(Drop)]
 pub(crate) struct Room {
     exchanges: Vec<u32>,
-    pub(crate) pivots: Vec<u32>,
+    pivots: Vec<u32>,
     row: Mzd,
 }
 
@@ -57,4 +57,27 @@ impl Room {
         a.put_all(all, home);
         rank
     }
+}
+
+/// A reduced form, and its pivots.
+#[derive(Drop)]
+pub(crate) struct Form {
+    pub(crate) matrix: Mzd,
+    pub(crate) pivots: Vec<u32>,
+}
+
+/// The reduced form of a matrix.
+pub(crate) fn form_of<M: AddMul>(alloc: Global, a: Mzd, ctx: &mut Ctx<M>) -> Result<Form, NoMemory>
+    requires serves { Serves (M.limits ctx.old.engine) ctx.old.tables ctx.old.cutoff a.rows a.cols }
+    ensures reduced { IfOk result (λ form. IsReducedAt form.matrix a form.pivots.items) }
+    ensures engine { M.limits ctx.new.engine ≡ M.limits ctx.old.engine }
+    ensures tables { AreSameTables ctx.old.tables ctx.new.tables }
+    ensures cutoff { ctx.new.cutoff ≡ ctx.old.cutoff }
+{
+    let mut matrix = a;
+    let mut room = Room::new(alloc, matrix.rows(), matrix.cols())?;
+    let rank = room.reduce(&mut matrix, ctx);
+    let mut pivots = room.pivots;
+    pivots.truncate(rank as usize);
+    Ok(Form { matrix, pivots })
 }

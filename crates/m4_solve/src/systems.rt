@@ -13,7 +13,7 @@ ghost use Rattle.m4_solve.specs.Reduction.{IsReducedAt, IsReadOff};
 
 use crate::answers::{Inverse, Solution};
 use crate::context::Ctx;
-use crate::room::Room;
+use crate::room::form_of;
 use m4_model::NoMemory;
 use m4_mzd::{AddMul, Mzd, Win, WinMut};
 use m4_shape::augment;
@@ -39,14 +39,13 @@ pub fn solve<M: AddMul>(
 {
     let _rows = a.rows();
     let _b = b.cols();
-    let mut both = augment(alloc, a, b)?;
-    let mut room = Room::new(alloc, both.rows(), both.cols())?;
-    let rank = room.reduce(&mut both, ctx) as usize;
-    let pivots = &room.pivots[..rank];
+    let both = augment(alloc, a, b)?;
+    let form = form_of(alloc, both, ctx)?;
+    let pivots = form.pivots.as_slice();
     if !all_below(pivots, a.cols()) {
         return Ok(Solution::NoSolution);
     }
-    Ok(Solution::Is(read_off(alloc, &both.all(), pivots, a.cols())?))
+    Ok(Solution::Is(read_off(alloc, &form.matrix.all(), pivots, a.cols())?))
 }
 
 /// The inverse of a square matrix, or that it is singular.
@@ -64,14 +63,13 @@ pub fn invert<M: AddMul>(alloc: Global, a: &Win, ctx: &mut Ctx<M>) -> Result<Inv
 {
     let n = a.cols();
     let one = Mzd::identity(alloc, n)?;
-    let mut both = augment(alloc, a, &one.all())?;
-    let mut room = Room::new(alloc, both.rows(), both.cols())?;
-    let rank = room.reduce(&mut both, ctx) as usize;
-    let pivots = &room.pivots[..rank];
+    let both = augment(alloc, a, &one.all())?;
+    let form = form_of(alloc, both, ctx)?;
+    let pivots = form.pivots.as_slice();
     if !are_first(pivots, n) {
         return Ok(Inverse::Singular);
     }
-    Ok(Inverse::Is(read_off(alloc, &both.all(), pivots, n)?))
+    Ok(Inverse::Is(read_off(alloc, &form.matrix.all(), pivots, n)?))
 }
 
 /// Whether all of these rising numbers are below `n`.
