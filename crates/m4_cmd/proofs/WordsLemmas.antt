@@ -8,13 +8,17 @@ use Rattle.std.proofs.lemmas.Slice.Eq.{bytes_eq-Decides}
 use Rattle.std.proofs.lemmas.Fmt.{decimal_is_IsNumeral}
 use Rattle.std.specs.Prelude.{String, string_bytes}
 use Rattle.std.specs.declared.alloc.Global.{Global}
-use Rattle.m4_model.specs.Words.{job, job_of, job_behind, begun, Verb, Kind, FileName, Number, Given, Understood, understand, with_option, is_equals_sign, is_option, number_of, verb_of}
+use Rattle.m4_model.specs.Words.{job, job_of, job_behind, begun, Verb, kinds_of, Kind, FileName, Number, Given, Understood, understand, with_option, is_equals_sign, is_option, number_of, verb_of}
 use Rattle.m4_cmd.specs.Texts.{texts}
 use Rattle.m4_cmd.specs.Progress.{IsOperandNext}
 
 -- what is told so far: the places that are wanted, the numbers, the files and the options
 abbrev so_far : List Kind → List ℕ → List (List ℕ) → Given → Understood
 so_far wanted numbers files given = record { wanted = wanted; numbers = numbers; files = files; given = given }
+
+-- the first place behind a verb is that of the name of a file
+pub first_place : (verb : Verb) → kinds_of verb ≡ FileName ∷ drop 1 (kinds_of verb)
+first_place verb = grind arith
 
 module _ (number next i : ℕ) (words : List (List ℕ)) (kinds : List Kind) (numbers : List ℕ) (files : List (List ℕ)) (given : Given) where
   -- no word is left, and no place is wanted

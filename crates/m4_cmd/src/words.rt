@@ -1,5 +1,5 @@
-ghost use Rattle.std.specs.Prelude.{◌≡◌, ◌≤◌, [], Some, length, option_map, IfOk, IfErr};
-ghost use Rattle.m4_model.specs.Words.{job, kinds_of, command_of, verb_of};
+ghost use Rattle.std.specs.Prelude.{◌≡◌, ◌≤◌, [], ◌∷◌, Some, length, drop, option_map, IfOk, IfErr};
+ghost use Rattle.m4_model.specs.Words.{job, kinds_of, command_of, verb_of, AddmulVerb, SubVerb};
 ghost use Rattle.m4_cmd.specs.Job.{verb_told, command_told, numbers_told, files_told, job_told};
 ghost use Rattle.m4_cmd.specs.Progress.{told_from};
 ghost use Rattle.m4_cmd.specs.Texts.{texts};
@@ -168,7 +168,7 @@ fn verb_of(word: &str) -> Option<Verb>
     }
 }
 
-/// The task of a verb, whose operands are the next words.
+/// The task of a verb, whose operands are the next words. The first of them is the name of a file, whatever the verb is.
 fn task_of<'a>(
     verb: Verb,
     words: &'a [String],
@@ -181,64 +181,101 @@ fn task_of<'a>(
         ≡ told_from words.now progress.new [] (numbers_told task) (files_told task)) }
     ensures refused { IfErr result (λ fault. told_from words.now progress.old (kinds_of (verb_told verb)) [] [] ≡ Err fault.word) }
 {
+    let a = next_name(words, progress)?;
+    task_on(verb, a, words, progress)
+}
+
+/// The task of a verb whose first file has this name. The further operands are the next words.
+fn task_on<'a>(
+    verb: Verb,
+    a: &'a str,
+    words: &'a [String],
+    progress: &mut Progress,
+) -> Result<Task<'a>, WordFault>
+    requires within { progress.old.next ≤ length words.now }
+    ensures within { progress.new.next ≤ length words.now }
+    ensures command { IfOk result (λ task. command_of (verb_told verb) (numbers_told task) ≡ Some (command_told task)) }
+    ensures task { IfOk result (λ task. told_from words.now progress.old (drop 1 (kinds_of (verb_told verb))) [] (a.now ∷ [])
+        ≡ told_from words.now progress.new [] (numbers_told task) (files_told task)) }
+    ensures refused { IfErr result (λ fault.
+        told_from words.now progress.old (drop 1 (kinds_of (verb_told verb))) [] (a.now ∷ []) ≡ Err fault.word) }
+{
     match verb {
         Verb::Mul => Ok(Task::Mul {
-            a: next_name(words, progress)?,
+            a,
             b: next_name(words, progress)?,
         }),
-        Verb::Addmul => Ok(Task::Addmul {
-            c: next_name(words, progress)?,
-            r0: next_number(words, progress)?,
-            c0: next_number(words, progress)?,
-            a: next_name(words, progress)?,
-            b: next_name(words, progress)?,
-        }),
+        Verb::Addmul => addmul_on(a, words, progress),
         Verb::Add => Ok(Task::Add {
-            a: next_name(words, progress)?,
+            a,
             b: next_name(words, progress)?,
         }),
-        Verb::Transpose => Ok(Task::Transpose {
-            a: next_name(words, progress)?,
-        }),
+        Verb::Transpose => Ok(Task::Transpose { a }),
         Verb::Stack => Ok(Task::Stack {
-            a: next_name(words, progress)?,
+            a,
             b: next_name(words, progress)?,
         }),
         Verb::Augment => Ok(Task::Augment {
-            a: next_name(words, progress)?,
+            a,
             b: next_name(words, progress)?,
         }),
-        Verb::Sub => Ok(Task::Sub {
-            a: next_name(words, progress)?,
-            r0: next_number(words, progress)?,
-            c0: next_number(words, progress)?,
-            r1: next_number(words, progress)?,
-            c1: next_number(words, progress)?,
-        }),
-        Verb::Convert => Ok(Task::Convert {
-            a: next_name(words, progress)?,
-        }),
-        Verb::Rank => Ok(Task::Rank {
-            a: next_name(words, progress)?,
-        }),
-        Verb::Echelon => Ok(Task::Echelon {
-            a: next_name(words, progress)?,
-        }),
-        Verb::Inverse => Ok(Task::Inverse {
-            a: next_name(words, progress)?,
-        }),
+        Verb::Sub => sub_on(a, words, progress),
+        Verb::Convert => Ok(Task::Convert { a }),
+        Verb::Rank => Ok(Task::Rank { a }),
+        Verb::Echelon => Ok(Task::Echelon { a }),
+        Verb::Inverse => Ok(Task::Inverse { a }),
         Verb::Solve => Ok(Task::Solve {
-            a: next_name(words, progress)?,
+            a,
             b: next_name(words, progress)?,
         }),
-        Verb::Kernel => Ok(Task::Kernel {
-            a: next_name(words, progress)?,
-        }),
-        Verb::Ple => Ok(Task::Ple {
-            a: next_name(words, progress)?,
-        }),
-        Verb::Pluq => Ok(Task::Pluq {
-            a: next_name(words, progress)?,
-        }),
+        Verb::Kernel => Ok(Task::Kernel { a }),
+        Verb::Ple => Ok(Task::Ple { a }),
+        Verb::Pluq => Ok(Task::Pluq { a }),
     }
+}
+
+/// The task `addmul` on the file of this name. The place, and the names of the factors, are the next words.
+fn addmul_on<'a>(
+    c: &'a str,
+    words: &'a [String],
+    progress: &mut Progress,
+) -> Result<Task<'a>, WordFault>
+    requires within { progress.old.next ≤ length words.now }
+    ensures within { progress.new.next ≤ length words.now }
+    ensures command { IfOk result (λ task. command_of AddmulVerb (numbers_told task) ≡ Some (command_told task)) }
+    ensures task { IfOk result (λ task. told_from words.now progress.old (drop 1 (kinds_of AddmulVerb)) [] (c.now ∷ [])
+        ≡ told_from words.now progress.new [] (numbers_told task) (files_told task)) }
+    ensures refused { IfErr result (λ fault.
+        told_from words.now progress.old (drop 1 (kinds_of AddmulVerb)) [] (c.now ∷ []) ≡ Err fault.word) }
+{
+    Ok(Task::Addmul {
+        c,
+        r0: next_number(words, progress)?,
+        c0: next_number(words, progress)?,
+        a: next_name(words, progress)?,
+        b: next_name(words, progress)?,
+    })
+}
+
+/// The task `sub` on the file of this name. The four numbers of the rectangle are the next words.
+fn sub_on<'a>(
+    a: &'a str,
+    words: &'a [String],
+    progress: &mut Progress,
+) -> Result<Task<'a>, WordFault>
+    requires within { progress.old.next ≤ length words.now }
+    ensures within { progress.new.next ≤ length words.now }
+    ensures command { IfOk result (λ task. command_of SubVerb (numbers_told task) ≡ Some (command_told task)) }
+    ensures task { IfOk result (λ task. told_from words.now progress.old (drop 1 (kinds_of SubVerb)) [] (a.now ∷ [])
+        ≡ told_from words.now progress.new [] (numbers_told task) (files_told task)) }
+    ensures refused { IfErr result (λ fault.
+        told_from words.now progress.old (drop 1 (kinds_of SubVerb)) [] (a.now ∷ []) ≡ Err fault.word) }
+{
+    Ok(Task::Sub {
+        a,
+        r0: next_number(words, progress)?,
+        c0: next_number(words, progress)?,
+        r1: next_number(words, progress)?,
+        c1: next_number(words, progress)?,
+    })
 }
