@@ -22,7 +22,8 @@ pub fn take_entry_out(side: Side, t: &Win, b: &mut WinMut, r: u32, j: u32)
     }
 }
 
-/// The same for an entry that is 1: row `j` of the triangle is added, before the diagonal or behind it.
+/// The same for an entry that is 1. Row `j` of the triangle is added: behind the diagonal, or before it, where the whole row
+/// is added and what stands from the diagonal on once more.
 fn take_one_out(side: Side, t: &Win, b: &mut WinMut, r: u32, j: u32)
     requires square { (shown t.now).rows ≡ (shown t.now).cols }
     requires fits { (shown t.now).cols ≡ b.old.cols }
