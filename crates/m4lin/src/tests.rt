@@ -50,9 +50,16 @@ fn texts(alloc: Global, texts: &[&str]) -> Result<Vec<String>, AllocError> {
     Ok(all)
 }
 
-fn file(alloc: Global, name: &str, bytes: &[u8]) -> Result<(String, Vec<u8>), AllocError> {
-    let name = String::from_str(alloc, name)?;
-    Ok((name, Vec::from_slice(alloc, bytes)?))
+/// The files A, B and C.
+fn files(alloc: Global, [a, b, c]: [&[u8]; 3]) -> Result<Vec<(String, Vec<u8>)>, AllocError> {
+    let mut all = Vec::new(alloc);
+    for (name, bytes) in [("A", a), ("B", b), ("C", c)] {
+        all.push((
+            String::from_str(alloc, name)?,
+            Vec::from_slice(alloc, bytes)?,
+        ))?;
+    }
+    Ok(all)
 }
 
 /// Runs these words over the files A and B.
@@ -77,14 +84,9 @@ fn run_over(
 ) -> Result<Ended, NoMemory>
     requires { 0 < outside.now.step }
 {
-    let [a, b, c] = operands;
     let words = texts(alloc, words)?;
-    let mut files = Vec::new(alloc);
-    files.push(file(alloc, "A", a)?)?;
-    files.push(file(alloc, "B", b)?)?;
-    files.push(file(alloc, "C", c)?)?;
     let failing = Vec::from_slice(alloc, outside.failing)?;
-    let mut shelf = MemShelf::new(files, outside.step, failing);
+    let mut shelf = MemShelf::new(files(alloc, operands)?, outside.step, failing);
     let mut out = MemSink::new(alloc, outside.out_room, Vec::new(alloc))?;
     let mut err = MemSink::new(alloc, outside.err_room, Vec::new(alloc))?;
     let status = run(alloc, &words, &mut shelf, &mut out, &mut err, &OpenGate);
@@ -121,36 +123,49 @@ const ENGINES: [&[&str]; 4] = [
     &["--tables=1", "--k=8"],
 ];
 
+/// This head, the same piece so many times, and the end of the last line.
+fn repeated(alloc: Global, head: &str, piece: &str, times: usize) -> Result<String, AllocError> {
+    Ok(format!(in alloc; "{head}{}\n", piece.repeat(alloc, times)?)?)
+}
+
+/// Sees that the product is this one, however it is computed.
+fn assert_product(
+    rt: &impl Abort,
+    alloc: Global,
+    a: &[u8],
+    b: &[u8],
+    product: &[u8],
+) -> Result<(), NoMemory> {
+    for options in &ENGINES {
+        let mut words = Vec::from_slice(alloc, &MUL)?;
+        words.extend_from_slice(options)?;
+        let ended = run_on(alloc, &words, a, b, &AMPLE)?;
+        assert_ended(rt, &ended, Status::Done, product, "");
+    }
+    Ok(())
+}
+
 #[test]
 fn products(rt: HostRuntime) -> Result<(), Fail> {
-    let ones = "1".repeat(rt.alloc(), 65)?;
-    let row = format!(in rt.alloc(); "gf2 1 65\n{ones}\n")?;
-    let column = format!(in rt.alloc(); "gf2 65 1\n{}", "1\n".repeat(rt.alloc(), 65)?)?;
-    for (a, b, product) in [
-        (LEFT, RIGHT, PRODUCT),
-        (
-            b"gf2 2 0\n\n\n".as_slice(),
-            b"gf2 0 3\n".as_slice(),
-            b"gf2 2 3\n000\n000\n".as_slice(),
-        ),
-        (
-            row.as_bytes(),
-            column.as_bytes(),
-            b"gf2 1 1\n1\n".as_slice(),
-        ),
-        (
-            b"gf2 0 0\n".as_slice(),
-            b"gf2 0 0\n".as_slice(),
-            b"gf2 0 0\n".as_slice(),
-        ),
-    ] {
-        for options in ENGINES {
-            let mut words = Vec::from_slice(rt.alloc(), &MUL)?;
-            words.extend_from_slice(options)?;
-            let ended = run_on(rt.alloc(), &words, a, b, &AMPLE)?;
-            assert_ended(&rt, &ended, Status::Done, product, "");
-        }
-    }
+    let alloc = rt.alloc();
+    let row = repeated(alloc, "gf2 1 65\n", "1", 65)?;
+    let column = repeated(alloc, "gf2 65 1\n1", "\n1", 64)?;
+    assert_product(&rt, alloc, LEFT, RIGHT, PRODUCT)?;
+    assert_product(
+        &rt,
+        alloc,
+        b"gf2 2 0\n\n\n",
+        b"gf2 0 3\n",
+        b"gf2 2 3\n000\n000\n",
+    )?;
+    assert_product(
+        &rt,
+        alloc,
+        row.as_bytes(),
+        column.as_bytes(),
+        b"gf2 1 1\n1\n",
+    )?;
+    assert_product(&rt, alloc, b"gf2 0 0\n", b"gf2 0 0\n", b"gf2 0 0\n")?;
     Ok(())
 }
 
@@ -200,7 +215,7 @@ const MISFITS: [(&str, &str, &str, &str); 6] = [
 fn products_that_are_not_added(rt: HostRuntime) -> Result<(), Fail> {
     let zeros = "0".repeat(rt.alloc(), 130)?;
     let c = format!(in rt.alloc(); "gf2 2 130\n{zeros}\n{zeros}\n")?;
-    for (row, col, a, b) in MISFITS {
+    for &(row, col, a, b) in &MISFITS {
         let ended = add_to(rt.alloc(), c.as_bytes(), row, col, a, b)?;
         assert_eq!(rt; ended.status, Status::Shape);
         assert_eq!(rt; ended.out.taken().len(), 0);
@@ -243,7 +258,7 @@ const REFUSED_WORDS: [(&[&str], u64); 24] = [
 
 #[test]
 fn words(rt: HostRuntime) -> Result<(), Fail> {
-    for (words, word) in REFUSED_WORDS {
+    for &(words, word) in &REFUSED_WORDS {
         let ended = run_on(rt.alloc(), words, LEFT, RIGHT, &AMPLE)?;
         let line = format!(in rt.alloc(); "m4lin: word {word} is not understood\n")?;
         assert_ended(&rt, &ended, Status::Words(word), b"", line.as_str());
@@ -356,7 +371,7 @@ const CONVERSIONS: [(&[&str], &str, Status, &str); 24] = [
 
 #[test]
 fn conversions(rt: HostRuntime) -> Result<(), Fail> {
-    for (options, text, status, answer) in CONVERSIONS {
+    for &(options, text, status, answer) in &CONVERSIONS {
         let mut words = Vec::from_slice(rt.alloc(), &["convert", "A"])?;
         words.extend_from_slice(options)?;
         assert_case(&rt, rt.alloc(), (&words, text, "", status, answer))?;
@@ -447,7 +462,7 @@ const PARTS: [Case<'static>; 17] = [
 
 #[test]
 fn parts(rt: HostRuntime) -> Result<(), Fail> {
-    for (command, a, b, status, answer) in PARTS {
+    for &(command, a, b, status, answer) in &PARTS {
         let mut words = Vec::from_slice(rt.alloc(), command)?;
         words.extend_from_slice(&["--in=bare", "--out=bare"])?;
         assert_case(&rt, rt.alloc(), (&words, a, b, status, answer))?;
@@ -455,22 +470,37 @@ fn parts(rt: HostRuntime) -> Result<(), Fail> {
     Ok(())
 }
 
+/// Sees that the answer of these words would pass a limit.
+fn assert_past_a_limit(
+    rt: &impl Abort,
+    alloc: Global,
+    words: &[&str],
+    a: &str,
+    b: &str,
+) -> Result<(), NoMemory> {
+    let ended = run_on(alloc, words, a.as_bytes(), b.as_bytes(), &AMPLE)?;
+    assert_ended(rt, &ended, Status::Limit, b"", "m4lin: limit passed\n");
+    Ok(())
+}
+
 #[test]
 fn answers_past_a_limit(rt: HostRuntime) -> Result<(), Fail> {
-    let tall = format!(in rt.alloc(); "gf2 65536 0\n{}", "\n".repeat(rt.alloc(), 65536)?)?;
-    let wide = format!(in rt.alloc(); "gf2 1 65536\n{}\n", "1".repeat(rt.alloc(), 65536)?)?;
-    let zeros = format!(in rt.alloc(); "gf2 16385 1\n{}", "0\n".repeat(rt.alloc(), 16385)?)?;
-    for (words, a, b) in [
-        (["mul", "A", "B"].as_slice(), tall.as_str(), "gf2 0 65536\n"),
-        (&["stack", "A", "B"], tall.as_str(), "gf2 1 0\n\n"),
-        (&["augment", "A", "B"], wide.as_str(), ONE),
-        (&["ple", "A"], zeros.as_str(), ""),
-        (&["pluq", "A"], zeros.as_str(), ""),
-    ] {
-        let ended = run_on(rt.alloc(), words, a.as_bytes(), b.as_bytes(), &AMPLE)?;
-        assert_ended(&rt, &ended, Status::Limit, b"", "m4lin: limit passed\n");
-    }
-    let ended = run_on(rt.alloc(), &["rank", "A"], zeros.as_bytes(), b"", &AMPLE)?;
+    let alloc = rt.alloc();
+    let tall = repeated(alloc, "gf2 65536 0\n", "\n", 65535)?;
+    let wide = repeated(alloc, "gf2 1 65536\n", "1", 65536)?;
+    assert_past_a_limit(&rt, alloc, &MUL, &tall, "gf2 0 65536\n")?;
+    assert_past_a_limit(&rt, alloc, &["stack", "A", "B"], &tall, "gf2 1 0\n\n")?;
+    assert_past_a_limit(&rt, alloc, &["augment", "A", "B"], &wide, ONE)?;
+    Ok(())
+}
+
+#[test]
+fn factors_past_a_limit(rt: HostRuntime) -> Result<(), Fail> {
+    let alloc = rt.alloc();
+    let zeros = repeated(alloc, "gf2 16385 1\n0", "\n0", 16384)?;
+    assert_past_a_limit(&rt, alloc, &["ple", "A"], &zeros, "")?;
+    assert_past_a_limit(&rt, alloc, &["pluq", "A"], &zeros, "")?;
+    let ended = run_on(alloc, &["rank", "A"], zeros.as_bytes(), b"", &AMPLE)?;
     assert_ended(&rt, &ended, Status::Done, b"rank 0\n", "");
     Ok(())
 }
@@ -518,7 +548,7 @@ const REFUSALS: [(&str, &str, Status); 13] = [
 
 #[test]
 fn refusals(rt: HostRuntime) -> Result<(), Fail> {
-    for (a, b, status) in REFUSALS {
+    for &(a, b, status) in &REFUSALS {
         assert_case(&rt, rt.alloc(), (&MUL, a, b, status, ""))?;
     }
     let ended = run_on(rt.alloc(), &MUL, b"gf2 1 1\n1\n", RIGHT, &AMPLE)?;

@@ -180,8 +180,8 @@ const QUESTIONS: [Case<'static>; 26] = [
 
 #[test]
 fn questions(rt: HostRuntime) -> Result<(), Fail> {
-    for case in QUESTIONS {
-        assert_case(&rt, rt.alloc(), case)?;
+    for case in &QUESTIONS {
+        assert_case(&rt, rt.alloc(), *case)?;
     }
     Ok(())
 }

@@ -16,6 +16,19 @@ const ROOMY: Outside<'static> = Outside {
     ..AMPLE
 };
 
+/// A row of random digits, at the end of a text.
+fn push_random(
+    text: &mut String,
+    source: &mut Xoshiro256PlusPlus,
+    cols: u32,
+) -> Result<(), AllocError> {
+    for _ in 0..cols {
+        let one = source.next_u32() % 2 == 1;
+        text.push(if one { '1' } else { '0' })?;
+    }
+    Ok(text.push('\n')?)
+}
+
 /// The text of a random matrix.
 fn random(
     alloc: Global,
@@ -25,13 +38,22 @@ fn random(
 ) -> Result<String, AllocError> {
     let mut text = format!(in alloc; "gf2 {rows} {cols}\n")?;
     for _ in 0..rows {
-        for _ in 0..cols {
-            let one = source.next_u32() % 2 == 1;
-            text.push(if one { '1' } else { '0' })?;
-        }
-        text.push('\n')?;
+        push_random(&mut text, source, cols)?;
     }
     Ok(text)
+}
+
+/// What the words end with over the files A and B, and the text that they write.
+fn written(
+    rt: &impl Abort,
+    alloc: Global,
+    words: &[&str],
+    a: &str,
+    b: &str,
+) -> Result<(Status, String), NoMemory> {
+    let ended = run_on(alloc, words, a.as_bytes(), b.as_bytes(), &ROOMY)?;
+    let text = std::str::from_utf8(ended.out.taken()).expect(rt, "a text");
+    Ok((ended.status, String::from_str(alloc, text)?))
 }
 
 /// What the words answer over the files A and B, with every choice of engine.
@@ -42,15 +64,14 @@ fn answer(
     a: &str,
     b: &str,
 ) -> Result<(Status, String), NoMemory> {
-    let first = run_on(alloc, words, a.as_bytes(), b.as_bytes(), &ROOMY)?;
-    for options in ENGINES {
+    let (status, text) = written(rt, alloc, words, a, b)?;
+    for options in &ENGINES {
         let mut chosen = Vec::from_slice(alloc, words)?;
         chosen.extend_from_slice(options)?;
-        let ended = run_on(alloc, &chosen, a.as_bytes(), b.as_bytes(), &ROOMY)?;
-        assert!(rt; ended.status == first.status && ended.out.taken() == first.out.taken());
+        let (other, same) = written(rt, alloc, &chosen, a, b)?;
+        assert!(rt; other == status && same == text);
     }
-    let text = std::str::from_utf8(first.out.taken()).expect(rt, "a text");
-    Ok((first.status, String::from_str(alloc, text)?))
+    Ok((status, text))
 }
 
 /// The text that these words answer, done.
@@ -98,33 +119,66 @@ fn matrix(
     done(rt, alloc, &["mul", "A", "B"], &left, &right)
 }
 
+/// Solves the equations of this matrix and right side, and sees that the solution meets them.
+fn assert_solved(rt: &impl Abort, alloc: Global, a: &str, right: &str) -> Result<(), NoMemory> {
+    let solution = done(rt, alloc, &["solve", "A", "B"], a, right)?;
+    let product = done(rt, alloc, &["mul", "A", "B"], a, &solution)?;
+    assert!(rt; product.as_str() == right);
+    Ok(())
+}
+
+/// Sees that there is a solution exactly where the right side, a column, leaves the rank as it is.
+fn assert_decided(rt: &impl Abort, alloc: Global, a: &str, right: &str) -> Result<(), NoMemory> {
+    let both = done(rt, alloc, &["augment", "A", "B"], a, right)?;
+    let rank = rank_of(rt, alloc, a)?;
+    let more = rank_of(rt, alloc, &both)?;
+    if more == rank {
+        return assert_solved(rt, alloc, a, right);
+    }
+    let (status, text) = answer(rt, alloc, &["solve", "A", "B"], a, right)?;
+    assert_eq!(rt; (more.checked_sub(rank), status), (Some(1), Status::No));
+    assert_eq!(rt; text.as_str(), "no solution\n");
+    Ok(())
+}
+
 #[test]
 fn systems(rt: HostRuntime) -> Result<(), Fail> {
     let alloc = rt.alloc();
     let mut source = Xoshiro256PlusPlus::seed_from_u64(1);
-    for shape in SHAPES {
+    for &shape in &SHAPES {
         let a = matrix(&rt, alloc, &mut source, shape)?;
         let chosen = random(alloc, &mut source, shape.1, 3)?;
         let right = done(&rt, alloc, &["mul", "A", "B"], &a, &chosen)?;
-        let solution = done(&rt, alloc, &["solve", "A", "B"], &a, &right)?;
-        let product = done(&rt, alloc, &["mul", "A", "B"], &a, &solution)?;
-        assert!(rt; product == right);
-
-        let right = random(alloc, &mut source, shape.0, 1)?;
-        let (status, solution) = answer(&rt, alloc, &["solve", "A", "B"], &a, &right)?;
-        let both = done(&rt, alloc, &["augment", "A", "B"], &a, &right)?;
-        let rank = rank_of(&rt, alloc, &a)?;
-        let more = rank_of(&rt, alloc, &both)?;
-        if status == Status::Done {
-            let product = done(&rt, alloc, &["mul", "A", "B"], &a, &solution)?;
-            assert!(rt; product == right);
-            assert_eq!(rt; more, rank);
-        } else {
-            assert_eq!(rt; status, Status::No);
-            assert_eq!(rt; solution.as_str(), "no solution\n");
-            assert_eq!(rt; more.checked_sub(rank), Some(1));
-        }
+        assert_solved(&rt, alloc, &a, &right)?;
+        let column = random(alloc, &mut source, shape.0, 1)?;
+        assert_decided(&rt, alloc, &a, &column)?;
     }
+    Ok(())
+}
+
+/// Sees that the reduced form of a matrix of this rank has its rank, spans the same rows and is its own reduced form.
+fn assert_form(rt: &impl Abort, alloc: Global, a: &str, rank: u64) -> Result<(), NoMemory> {
+    let form = done(rt, alloc, &["echelon", "A"], a, "")?;
+    let both = done(rt, alloc, &["stack", "A", "B"], a, &form)?;
+    let again = done(rt, alloc, &["echelon", "A"], &form, "")?;
+    assert!(rt; again == form);
+    let ranks = (rank_of(rt, alloc, &form)?, rank_of(rt, alloc, &both)?);
+    assert_eq!(rt; ranks, (rank, rank));
+    Ok(())
+}
+
+/// Sees that the basis of the kernel is of this rank, and that the matrix takes it to zero.
+fn assert_kernel(
+    rt: &impl Abort,
+    alloc: Global,
+    a: &str,
+    free: Option<u64>,
+) -> Result<(), NoMemory> {
+    let basis = done(rt, alloc, &["kernel", "A"], a, "")?;
+    let columns = done(rt, alloc, &["transpose", "A"], &basis, "")?;
+    let zeros = done(rt, alloc, &["mul", "A", "B"], a, &columns)?;
+    let ranks = (rank_of(rt, alloc, &basis)?, rank_of(rt, alloc, &zeros)?);
+    assert_eq!(rt; (Some(ranks.0), ranks.1), (free, 0));
     Ok(())
 }
 
@@ -132,22 +186,27 @@ fn systems(rt: HostRuntime) -> Result<(), Fail> {
 fn forms(rt: HostRuntime) -> Result<(), Fail> {
     let alloc = rt.alloc();
     let mut source = Xoshiro256PlusPlus::seed_from_u64(2);
-    for shape in SHAPES {
+    for &shape in &SHAPES {
         let a = matrix(&rt, alloc, &mut source, shape)?;
         let rank = rank_of(&rt, alloc, &a)?;
-        let form = done(&rt, alloc, &["echelon", "A"], &a, "")?;
-        let both = done(&rt, alloc, &["stack", "A", "B"], &a, &form)?;
-        assert!(rt; done(&rt, alloc, &["echelon", "A"], &form, "")? == form);
-        assert_eq!(rt; rank_of(&rt, alloc, &form)?, rank);
-        assert_eq!(rt; rank_of(&rt, alloc, &both)?, rank);
-
-        let basis = done(&rt, alloc, &["kernel", "A"], &a, "")?;
-        let columns = done(&rt, alloc, &["transpose", "A"], &basis, "")?;
-        let zeros = done(&rt, alloc, &["mul", "A", "B"], &a, &columns)?;
-        let free = rank_of(&rt, alloc, &basis)?;
-        assert_eq!(rt; u64::from(shape.1).checked_sub(rank), Some(free));
-        assert_eq!(rt; rank_of(&rt, alloc, &zeros)?, 0);
+        assert_form(&rt, alloc, &a, rank)?;
+        assert_kernel(&rt, alloc, &a, u64::from(shape.1).checked_sub(rank))?;
     }
+    Ok(())
+}
+
+/// Sees that a matrix of n rows and columns has an inverse, on both sides, exactly where its rank is n.
+fn assert_inverse(rt: &impl Abort, alloc: Global, a: &str, n: u32) -> Result<(), NoMemory> {
+    if rank_of(rt, alloc, a)? < u64::from(n) {
+        let (status, text) = answer(rt, alloc, &["inverse", "A"], a, "")?;
+        assert_eq!(rt; (status, text.as_str()), (Status::No, "singular\n"));
+        return Ok(());
+    }
+    let inverse = done(rt, alloc, &["inverse", "A"], a, "")?;
+    let one = done(rt, alloc, &["mul", "A", "B"], a, &inverse)?;
+    let product = done(rt, alloc, &["mul", "A", "B"], &one, a)?;
+    assert!(rt; product.as_str() == a);
+    assert_eq!(rt; rank_of(rt, alloc, &one)?, u64::from(n));
     Ok(())
 }
 
@@ -157,16 +216,7 @@ fn inverses(rt: HostRuntime) -> Result<(), Fail> {
     let mut source = Xoshiro256PlusPlus::seed_from_u64(3);
     for n in [1, 2, 63, 64, 65, 130, 300] {
         let a = random(alloc, &mut source, n, n)?;
-        let (status, inverse) = answer(&rt, alloc, &["inverse", "A"], &a, "")?;
-        if status == Status::Done {
-            let one = done(&rt, alloc, &["mul", "A", "B"], &a, &inverse)?;
-            assert!(rt; done(&rt, alloc, &["mul", "A", "B"], &one, &a)? == a);
-            assert_eq!(rt; rank_of(&rt, alloc, &one)?, u64::from(n));
-        } else {
-            assert_eq!(rt; status, Status::No);
-            assert_eq!(rt; inverse.as_str(), "singular\n");
-            assert!(rt; rank_of(&rt, alloc, &a)? < u64::from(n));
-        }
+        assert_inverse(&rt, alloc, &a, n)?;
     }
     Ok(())
 }
@@ -187,6 +237,20 @@ fn numbers(
     Ok(numbers)
 }
 
+/// The digits of a row in this order, at the end of a text.
+fn push_reordered(
+    rt: &impl Abort,
+    text: &mut String,
+    digits: &[u8],
+    order: &[usize],
+) -> Result<(), AllocError> {
+    for place in order {
+        let one = *digits.get(*place).expect(rt, "an entry") == b'1';
+        text.push(if one { '1' } else { '0' })?;
+    }
+    Ok(text.push('\n')?)
+}
+
 /// A matrix with its rows and columns in these orders.
 fn reordered(
     rt: &impl Abort,
@@ -201,12 +265,8 @@ fn reordered(
     }
     let mut text = format!(in alloc; "gf2 {} {}\n", rows.len(), columns.len())?;
     for row in rows {
-        let entries = lines.get(*row).expect(rt, "a row");
-        for column in columns {
-            let one = *entries.get(*column).expect(rt, "an entry") == b'1';
-            text.push(if one { '1' } else { '0' })?;
-        }
-        text.push('\n')?;
+        let digits = lines.get(*row).expect(rt, "a row");
+        push_reordered(rt, &mut text, digits, columns)?;
     }
     Ok(text)
 }
@@ -226,42 +286,75 @@ fn next_matrix(
     Ok(text)
 }
 
-/// Sees that the factors of this matrix multiply to it, and answers what is told of its columns.
-fn assert_factors(
+/// What is written of the factors of a matrix: the order of the rows, what is told of the columns, and two matrices.
+#[derive(Drop)]
+struct Factored {
+    rows: Vec<usize>,
+    columns: Vec<usize>,
+    lower: String,
+    upper: String,
+}
+
+/// The factors on the next lines, where the columns are told under this name.
+fn next_factors(
+    rt: &impl Abort,
+    alloc: Global,
+    lines: &mut Lines<'_>,
+    name: &str,
+) -> Result<Factored, NoMemory> {
+    let rows = numbers(rt, alloc, lines.next(), "rows")?;
+    let columns = numbers(rt, alloc, lines.next(), name)?;
+    let lower = next_matrix(rt, alloc, lines, rows.len())?;
+    let upper = next_matrix(rt, alloc, lines, rows.len())?;
+    Ok(Factored {
+        rows,
+        columns,
+        lower,
+        upper,
+    })
+}
+
+/// The factors that a command writes of this matrix, below its rank.
+fn factors_of(
     rt: &impl Abort,
     alloc: Global,
     (command, name): (&str, &str),
     a: &str,
-    cols: usize,
-) -> Result<Vec<usize>, NoMemory> {
-    let ended = run_on(alloc, &[command, "A"], a.as_bytes(), b"", &ROOMY)?;
-    assert_eq!(rt; ended.status, Status::Done);
-    let mut lines = std::str::from_utf8(ended.out.taken())
-        .expect(rt, "a text")
-        .lines();
+) -> Result<Factored, NoMemory> {
+    let (status, text) = written(rt, alloc, &[command, "A"], a, "")?;
+    assert_eq!(rt; status, Status::Done);
+    let mut lines = text.lines();
     let rank = format!(in alloc; "rank {}", rank_of(rt, alloc, a)?)?;
     assert_eq!(rt; lines.next(), Some(rank.as_str()));
-    let rows = numbers(rt, alloc, lines.next(), "rows")?;
-    let columns = numbers(rt, alloc, lines.next(), name)?;
-    let lower = next_matrix(rt, alloc, &mut lines, rows.len())?;
-    let upper = next_matrix(rt, alloc, &mut lines, rows.len())?;
+    let factors = next_factors(rt, alloc, &mut lines, name)?;
     assert_eq!(rt; lines.next(), None);
-    let product = done(rt, alloc, &["mul", "A", "B"], &lower, &upper)?;
-    if command == "pluq" {
-        assert!(rt; product == reordered(rt, alloc, a, &rows, &columns)?);
-    } else {
-        let mut order = Vec::new(alloc);
-        order.extend(0..cols)?;
-        assert!(rt; product == reordered(rt, alloc, a, &rows, &order)?);
-    }
-    Ok(columns)
+    Ok(factors)
+}
+
+/// Sees that factors multiply to this matrix, with its rows and columns in order.
+fn assert_factored(
+    rt: &impl Abort,
+    alloc: Global,
+    a: &str,
+    factors: &Factored,
+    columns: &[usize],
+) -> Result<(), NoMemory> {
+    let product = done(
+        rt,
+        alloc,
+        &["mul", "A", "B"],
+        &factors.lower,
+        &factors.upper,
+    )?;
+    assert!(rt; product == reordered(rt, alloc, a, &factors.rows, columns)?);
+    Ok(())
 }
 
 #[test]
 fn factors(rt: HostRuntime) -> Result<(), Fail> {
     let alloc = rt.alloc();
     let mut source = Xoshiro256PlusPlus::seed_from_u64(4);
-    for shape in SHAPES {
+    for &shape in &SHAPES {
         let right = matrix(&rt, alloc, &mut source, shape)?;
         let line = format!(in alloc; "{}\n", "0".repeat(alloc, 64)?)?;
         let zeros = format!(in alloc;
@@ -270,11 +363,17 @@ fn factors(rt: HostRuntime) -> Result<(), Fail> {
             line.repeat(alloc, shape.0 as usize)?
         )?;
         let a = done(&rt, alloc, &["augment", "A", "B"], &zeros, &right)?;
-        let cols = shape.1 as usize + 64;
-        let pivots = assert_factors(&rt, alloc, ("ple", "pivots"), &a, cols)?;
-        let columns = assert_factors(&rt, alloc, ("pluq", "columns"), &a, cols)?;
-        assert_eq!(rt; columns.len(), cols);
-        assert_eq!(rt; columns.get(..pivots.len()), Some(pivots.as_slice()));
+        let mut in_place = Vec::new(alloc);
+        in_place.extend(0..shape.1 as usize + 64)?;
+        let ple = factors_of(&rt, alloc, ("ple", "pivots"), &a)?;
+        assert_factored(&rt, alloc, &a, &ple, &in_place)?;
+        let pluq = factors_of(&rt, alloc, ("pluq", "columns"), &a)?;
+        assert_factored(&rt, alloc, &a, &pluq, &pluq.columns)?;
+        assert_eq!(rt; pluq.columns.len(), in_place.len());
+        assert_eq!(rt;
+            pluq.columns.get(..ple.columns.len()),
+            Some(ple.columns.as_slice())
+        );
     }
     Ok(())
 }
