@@ -5,7 +5,7 @@ use Rattle.std.proofs.lemmas.List.{length-set, get_or-set_same, get_or-set_other
 use Rattle.m4_model.specs.Matrix.{Matrix, row, at, with_entry}
 use Rattle.m4_model.specs.Rank.{IsRising}
 use Rattle.m4_model.proofs.EchelonLemmas.{rising-le}
-use Rattle.m4_solve.specs.Kernel.{AreOthers, IsKernelRow}
+use Rattle.m4_solve.specs.Kernel.{IsKernelRow}
 
 -- The numbers below j are parted: the first ones of q, and those of g.
 pub record ArePartedTo (q g : List ℕ) (next j : ℕ) : Type 0 where
@@ -16,18 +16,6 @@ pub record ArePartedTo (q g : List ℕ) (next j : ℕ) : Type 0 where
   pub below : (t : ℕ) → t < length g → slice_index g t < j
   pub apart : (t s : ℕ) → t < length g → s < length q → slice_index q s ≢ slice_index g t
   pub rest : (i : ℕ) → i < j → ((t : ℕ) → t < length g → slice_index g t ≢ i) → (s : ℕ) × (s < length q) × (slice_index q s ≡ i)
-
--- none is at first
-pub parted_start : (q : List ℕ) → ArePartedTo q [] 0 0
-parted_start q = record {
-  within = omega arith;
-  before = λ s early. absurd (omega (arith, early));
-  behind = λ s from inside. omega arith;
-  rising = λ i j before inside. absurd (omega (arith, inside));
-  below = λ t inside. absurd (omega (arith, inside));
-  apart = λ t s inside within. absurd (omega (arith, inside));
-  rest = λ i low none. absurd (omega (arith, low));
-}
 
 -- the next is in q
 pub parted_pivot : (q g : List ℕ) (next j : ℕ) → IsRising q → next < length q → slice_index q next ≡ j → ArePartedTo q g next j → ArePartedTo q g (next + 1) (j + 1)
@@ -89,10 +77,6 @@ parted_other q g next j q_rising away old =
           (λ (end : j ≤ i). let same : j ≡ i = omega (arith, low, end) in absurd (none (length g) (omega (arith, long)) (last (length g) refl ∙ same)))
           (cases_lt i j);
     }
-
--- all are parted
-pub parted_all : (q g : List ℕ) (next n : ℕ) → ArePartedTo q g next n → AreOthers n q g
-parted_all q g next n parted = record { rising = parted.rising; below = parted.below; apart = parted.apart; rest = parted.rest }
 
 -- an entry that is written, and the others
 pub at-written : (A : Matrix) (r c x : ℕ) → r < length A.entries → c < length (row A r) → at (with_entry A r c x) r c ≡ x

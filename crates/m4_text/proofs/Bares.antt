@@ -445,18 +445,6 @@ no_lines M is =
       spelled = refl;
     })
 
--- the bytes are the lines that were read
-pub all_lines : (bytes : List ℕ) (m n end : ℕ) (old A : Matrix) → old ≡ zero_matrix gf2 m n → 0 < m → IsWithinLimits m n
-    → ReadsLines bytes old A end → length bytes ≤ end → ReadsBare bytes A
-all_lines bytes m n end old A is some limits read last =
-    let many : A.rows ≡ m = read.rows ∙ ap (λ (B : Matrix). B.rows) is in
-    let wide : A.cols ≡ n = read.cols ∙ ap (λ (B : Matrix). B.cols) is in
-    record {
-      accepted = record { matrix = read.matrix; over_gf2 = read.over_gf2; limits = subst₂ IsWithinLimits (sym many) (sym wide) limits };
-      held = λ none. absurd (omega (arith, many));
-      spelled = sym (take_all end bytes last) ∙ read.spelled;
-    }
-
 -- the lines that were read, as a body
 pub body_read : (bytes : List ℕ) (m n end : ℕ) (old A : Matrix) → old ≡ zero_matrix gf2 m n → ReadsLines bytes old A end
     → IsBody m n (take end bytes)

@@ -86,10 +86,7 @@ column_written false (b ∷ cs) c none some =
     ∙ ap (λ w. 45 ∷ (decimal b ++ (further cs ++ 32 ∷ w))) (append-nil (decimal c))
     ∙ ap (λ w. 45 ∷ w) (sym (append_assoc (decimal b) (further cs) (32 ∷ decimal c)))
 
--- the rest of the line behind some columns
-pub line_rest : List ℕ → List ℕ
-line_rest cs = further cs ++ 10 ∷ []
-
+-- a line is some columns and the rest of it
 pub line_split : (cs ds : List ℕ) → 0 < length cs → line_of_columns (cs ++ ds) ≡ columns_text cs ++ (further ds ++ 10 ∷ [])
 line_split [] ds some = absurd (omega (arith, some))
 line_split (c ∷ cs) ds some =

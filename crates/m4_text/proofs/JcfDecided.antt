@@ -189,9 +189,6 @@ bit_small (inl has) = omega arith
 bit_small (inr none) = omega arith
 
 -- the matrix of entries
-of_entries : ℕ → ℕ → List Entry → Matrix
-of_entries m n es = matrix_of gf2 m n (λ i j. bit (has_or_not es [] i j))
-
 read_entries : (bytes : List ℕ) (m n : ℕ) (es : List Entry) → length bytes ≤ 2 ^ 29 → IsWithinLimits m n → IsJcf (tokens bytes) m n es
     → (M : Matrix) × ReadsJcf bytes M
 read_entries bytes m n es short limits spelled =

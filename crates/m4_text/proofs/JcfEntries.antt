@@ -1,12 +1,12 @@
 -- The entries of JCF, one after the other, and the matrix that they tell.
-use Rattle.std.proofs.Common.{◌≡◌, ℕ, ◌+◌, ◌-◌, ◌<◌, ◌≤◌, Bool, cond, List, [], ◌∷◌, ◌++◌, length, get_or, set, Some, refl, sym, ◌∙◌, ap, ap₂, subst, arith, ◌⊎◌, inl, inr, append_assoc, append-nil, length-append, get_or-set_same, get_or-set_other}
+use Rattle.std.proofs.Common.{◌≡◌, ℕ, ◌+◌, ◌-◌, ◌<◌, ◌≤◌, Bool, cond, List, [], ◌∷◌, ◌++◌, length, get_or, set, Some, refl, sym, ◌∙◌, ap, ap₂, subst, arith, ◌⊎◌, inl, inr, append_assoc, length-append, get_or-set_same, get_or-set_other}
 use Rattle.std.proofs.lemmas.Bool.{cases_eq}
 use Rattle.std.proofs.lemmas.List.{length-set, map-append}
 use Rattle.std.proofs.lemmas.List.Sums.{sum_by_push}
 use Rattle.m4_model.specs.Field.{gf2}
 use Rattle.m4_model.specs.Matrix.{Matrix, IsMatrix, row, at, with_entry}
 use Rattle.m4_model.specs.Jcf.{Token, Entry, entry, rows_begun, Takes, SpellsEntries, HasEntry}
-use Rattle.m4_text.specs.Tokens.{judged_from, token_at, IsNextToken, begun_with, IsCell, LacksCell, ReadsEntries, RefusesEntry}
+use Rattle.m4_text.specs.Tokens.{judged_from, token_at, IsNextToken, begun_with, IsCell, LacksCell, RefusesEntry}
 use Rattle.m4_text.proofs.JcfHeaders.{no_entries}
 use Rattle.m4_text.proofs.Bodies.{AreBits-row, AreRows-matrix}
 use Rattle.m4_text.proofs.Rows.{IsMatrix-with_row}
@@ -206,21 +206,6 @@ entries_go_on bytes long start place begun from end r c old A new far next cell_
             | inr here ↦ ap₂ (λ k l. at (with_entry A r c 1) k l) here.0 here.1 ∙ at_entry A r c 1 in_entries in_row
           ];
     })
-
--- no entry more
-pub entries_end : (bytes : List ℕ) (long : Bool) (start place begun : ℕ) (old A : Matrix)
-    → EntriesSoFar bytes long start place begun old A → judged_from bytes long place ≡ [] → ReadsEntries bytes long start old A
-entries_end bytes long start place begun old A far none = record {
-  entries = far.entries;
-  spelled = subst (λ w. SpellsEntries old.rows old.cols w far.entries)
-      (sym (far.split ∙ ap (λ w. far.words ++ w) none ∙ append-nil far.words)) far.spelled;
-  matrix = far.matrix;
-  over_gf2 = far.over_gf2;
-  rows = far.rows;
-  cols = far.cols;
-  kept = far.kept;
-  ones = far.ones;
-}
 
 -- an entry that isn't taken
 pub entry_wrong : (bytes : List ℕ) (long : Bool) (start place begun from end : ℕ) (old A : Matrix)

@@ -15,11 +15,6 @@ use Rattle.m4_text.specs.Reading.{digits_from}
 pub puts_nothing : (old : Option (List ℕ)) (before : ℕ) (waits : List ℕ) → Puts old old before before waits waits (Ok tt) []
 puts_nothing old before waits = record { ok = ([], writes_nothing old before tt, append-nil waits); err = tt }
 
--- all that waits goes
-pub puts_all : {old new : Option (List ℕ)} {before now : ℕ} {waited : List ℕ}
-    → WritesAll {T = Unit {0}} {E = Failed} old new before now (Ok tt) waited → Puts old new before now waited [] (Ok tt) []
-puts_all {waited = waited} written = record { ok = (waited, written, refl); err = tt }
-
 -- a few bytes, behind those that wait when there is room
 pub puts_behind : {old new : Option (List ℕ)} {before now : ℕ} {waited room waits : List ℕ} {bytes : List ℕ}
     → Puts old new before now waited room (Ok tt) [] → waits ≡ room ++ bytes → Puts old new before now waited waits (Ok tt) bytes

@@ -1,9 +1,9 @@
 -- A row while the words of its digits are read.
-use Rattle.std.proofs.Common.{◌≡◌, ℕ, ◌+◌, ◌-◌, ◌*◌, ◌/◌, ◌%◌, ◌<◌, ◌≤◌, ◌⊎◌, min, cond, eqb, List, [], ◌++◌, length, get_or, set, take, drop, sym, ◌∙◌, ap, subst, arith, inl, inr, append-nil, take-add, take_all, get_or-set_same, get_or-take, get_or-drop, length-take, length-drop, length-append, ext_get_or}
+use Rattle.std.proofs.Common.{◌≡◌, ℕ, ◌+◌, ◌-◌, ◌*◌, ◌/◌, ◌%◌, ◌<◌, ◌≤◌, ◌⊎◌, min, cond, eqb, List, [], ◌++◌, length, get_or, set, take, drop, sym, ◌∙◌, ap, subst, arith, inl, inr, take-add, take_all, get_or-set_same, get_or-take, get_or-drop, length-take, length-drop, length-append, ext_get_or}
 use Rattle.std.specs.Int.{bit_at}
 use Rattle.std.proofs.lemmas.Bool.{cases_eq, cases_lt, cond-true, cond-false, eq-eqb, ne_eqb}
-use Rattle.std.proofs.lemmas.List.{length-map, get_or-map, get_or_append_left, get_or-append_right, set-get_or, set-set, drop_all}
-use Rattle.std.proofs.lemmas.List.Elements.{All-append, All-take, All-drop}
+use Rattle.std.proofs.lemmas.List.{length-map, get_or-map, get_or_append_left, get_or-append_right, set-set}
+use Rattle.std.proofs.lemmas.List.Elements.{All-append}
 use Rattle.std.proofs.lemmas.List.FromFn.{length-map-range_with_len, get_or-map-range_with_len}
 use Rattle.m4_model.specs.Matrix.{row, with_row}
 use Rattle.m4_bits.specs.Digits.{AreDigits, digits_of}
@@ -104,13 +104,7 @@ digits_cut digits start end is =
       | inr full ↦ (let many : end - start ≡ 64 = omega arith in ap (λ n. take n (drop start digits)) many)
     ]
 
-pub digits_part : (digits : List ℕ) (start many : ℕ) → AreDigits digits → AreDigits (take many (drop start digits))
-digits_part digits start many are = All-take (λ byte. (byte ≡ 48) ⊎ (byte ≡ 49)) many (drop start digits) (All-drop (λ byte. (byte ≡ 48) ⊎ (byte ≡ 49)) start digits are)
-
--- a window, of which no word of the row is read, one more, and all
-pub window_begins : (w : Window) (r : ℕ) (digits : List ℕ) → w ≡ showing w (with_row (content w) r (row_so_far digits (row (content w) r) 0))
-window_begins w r digits = ap (λ (rows : List (List ℕ)). record w { bits = rows }) (sym (set-get_or w.bits r []))
-
+-- a window, of which one word more of the row is read
 pub window_more : (w now new : Window) (r : ℕ) (digits : List ℕ) (k word : ℕ) → r < length w.bits → length digits ≡ length (row (content w) r)
     → now ≡ showing w (with_row (content w) r (row_so_far digits (row (content w) r) (64 * k)))
     → new ≡ showing now (with_row (content now) r (with_word k word (row (content now) r)))
@@ -124,12 +118,3 @@ window_more w now new r digits k word below same so_far written spelled =
     ∙ ap (λ l. record w { bits = set (set w.bits r before) r (with_word k word l) }) read
     ∙ ap (λ (rows : List (List ℕ)). record w { bits = rows }) (set-set w.bits r before (with_word k word before))
     ∙ ap (λ l. record w { bits = set w.bits r l }) (word_read digits old k word same spelled)
-
-pub window_read : (w now : Window) (r : ℕ) (digits : List ℕ) (c : ℕ) → length digits ≡ length (row (content w) r) → length digits ≤ c
-    → now ≡ showing w (with_row (content w) r (row_so_far digits (row (content w) r) c))
-    → now ≡ showing w (with_row (content w) r (entries_of digits))
-window_read w now r digits c same all so_far =
-    let old = row (content w) r in
-    let whole : row_so_far digits old c ≡ entries_of digits =
-    ap (λ l. entries_of l ++ drop c old) (take_all c digits all) ∙ ap (λ l. entries_of digits ++ l) (drop_all c old (omega arith)) ∙ append-nil (entries_of digits) in
-    so_far ∙ ap (λ l. record w { bits = set w.bits r l }) whole
