@@ -1,5 +1,5 @@
 -- Polynomials over GF(2) as numbers, the fields GF(2^e), and the sum and product of their elements.
-use Rattle.std.specs.Prelude.{◌≡◌, ℕ, zero, suc, ◌+◌, ◌-◌, ◌*◌, ◌/◌, ◌^◌, ◌<◌, ◌≤◌, ◌⊎◌, bit_xor, nat_lt, cond}
+use Rattle.std.specs.Prelude.{◌≡◌, ℕ, zero, suc, ◌+◌, ◌-◌, ◌*◌, ◌/◌, ◌^◌, ◌<◌, ◌≤◌, ◌⊎◌, bit_xor, nat_lt, nat_le, cond, if◌then◌else◌}
 use Rattle.std.specs.Int.{bit_at}
 
 -- The sum of g 0, g 1 and so on to g (n - 1). A sum of elements is the xor of their bits, and an empty sum is 0.
@@ -38,10 +38,10 @@ IsElement F a = a < 2 ^ F.degree
 abbrev pub IsIrreducible : Field → Type 0
 IsIrreducible F = (a b : ℕ) → 2 ≤ a → IsElement F a → 2 ≤ b → IsElement F b → clmul a b ≡ F.poly → ⊥
 
--- An extension field: a degree from 2 to 8, and an irreducible polynomial of that degree.
+-- An extension field: a degree from 2 to 16, and an irreducible polynomial of that degree.
 pub record IsExtension (F : Field) : Type 0 where
   pub degree_low : 2 ≤ F.degree
-  pub degree_high : F.degree ≤ 8
+  pub degree_high : F.degree ≤ 16
   pub poly_low : 2 ^ F.degree ≤ F.poly
   pub poly_high : F.poly < 2 ^ (F.degree + 1)
   pub irreducible : IsIrreducible F
@@ -49,6 +49,22 @@ pub record IsExtension (F : Field) : Type 0 where
 -- GF(2), or an extension field.
 abbrev pub IsField : Field → Type 0
 IsField F = (F ≡ gf2) ⊎ IsExtension F
+
+-- The fields that code carries, in one record: a degree from 1 to 16, an irreducible polynomial of that degree, and x for degree 1.
+pub record IsCarried (F : Field) : Type 0 where
+  pub degree_low : 1 ≤ F.degree
+  pub degree_high : F.degree ≤ 16
+  pub poly_low : 2 ^ F.degree ≤ F.poly
+  pub poly_high : F.poly < 2 ^ (F.degree + 1)
+  pub irreducible : IsIrreducible F
+  pub first : F.degree ≡ 1 → F.poly ≡ 2
+
+-- The bits of the place of an element: the least of 1, 2, 4, 8 and 16 that holds the degree.
+abbrev pub width_of : ℕ → ℕ
+width_of e = if nat_le e 1 then 1 else if nat_le e 2 then 2 else if nat_le e 4 then 4 else if nat_le e 8 then 8 else 16
+
+abbrev pub width : Field → ℕ
+width F = width_of F.degree
 
 -- c without its highest bit: the multiple of the field's polynomial with that highest bit is added.
 abbrev pub without_highest : Field → ℕ → ℕ
