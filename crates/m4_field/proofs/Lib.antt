@@ -1,0 +1,3 @@
+pub mod DivisionSteps
+pub mod FactorSteps
+pub mod ProductSteps

@@ -1,0 +1,3 @@
+pub mod Factor
+pub mod Fields
+pub mod Inverses
