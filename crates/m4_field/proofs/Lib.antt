@@ -1,3 +1,4 @@
 pub mod DivisionSteps
 pub mod FactorSteps
 pub mod ProductSteps
+pub mod WidthLemmas

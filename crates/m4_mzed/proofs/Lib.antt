@@ -1,0 +1,14 @@
+pub mod AddedRows
+pub mod BitLemmas
+pub mod ElementLemmas
+pub mod EntryLemmas
+pub mod IndexLemmas
+pub mod MultipleLemmas
+pub mod PartLemmas
+pub mod PutLemmas
+pub mod RectLemmas
+pub mod RowLemmas
+pub mod SeenLemmas
+pub mod SumLemmas
+pub mod WordLemmas
+pub mod ZeroLemmas

@@ -1,0 +1,35 @@
+use Rattle.std.proofs.Common.{◌*◌, ℕ, [], take, map, refl, sym, ap, subst, ◌∙◌}
+use Rattle.m4_model.specs.Matrix.{Matrix}
+use Rattle.m4_field.specs.Fields.{the_field}
+use Rattle.m4_model.specs.Field.{width}
+use Rattle.m4_mzd.specs.Seen.{shown}
+use Rattle.m4_mzd.specs.Window.{Window}
+use Rattle.m4_mzd.specs.Window.{content as bit_content}
+use Rattle.m4_mzed.specs.EWindow.{content}
+use Rattle.m4_mzed.specs.Owned.{e_matrix}
+use Rattle.m4_mzed.specs.PackedIn.{IsPackedIn}
+use Rattle.m4_mzed.proofs.PartLemmas.{packed_left, elements_left}
+use Rattle.m4_mzed.proofs.SeenLemmas.{as_window, packed_as_window, packed_as_matrix}
+use Rattle.m4_mzed.specs.declared.win.EWin.{EWin}
+use Rattle.m4_mzed.proofs.win.EWin.narrow.Goals as goal
+
+abbrev left_of : EWin → ℕ → Window
+left_of v b = let w = as_window (shown v.bits) in record w { cols = b; bits = map (take b) w.bits; past = map (λ _. []) w.past }
+
+pub invariant_of-result : goal.invariant_of-result
+invariant_of-result c =
+    let v = c.args.self in
+    let F = the_field v.field in
+    let P : Matrix → Type 0 = IsPackedIn F c.args.cols in
+    record {
+      packed = subst P (sym (c.narrow.ensures ∙ ap (λ b. bit_content (left_of v b)) c.first_bit.ensures))
+          (packed_as_matrix F c.args.cols (left_of v (c.args.cols * width F))
+          (packed_left F v.cols (as_window (shown v.bits)) (packed_as_window F v.cols (shown v.bits) v.packed) c.args.cols (left_of v (c.args.cols * width F)) c.requires refl));
+    }
+
+pub returns : goal.returns
+returns c =
+    let v = c.args.self in
+    let F = the_field v.field in
+    ap (e_matrix F c.args.cols) (c.narrow.ensures ∙ ap (λ b. bit_content (left_of v b)) c.first_bit.ensures)
+    ∙ ap content (elements_left F v.cols (as_window (shown v.bits)) (packed_as_window F v.cols (shown v.bits) v.packed) c.args.cols (left_of v (c.args.cols * width F)) c.requires refl)

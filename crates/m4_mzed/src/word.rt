@@ -1,0 +1,56 @@
+//! The elements of a word, multiplied by one.
+
+ghost use Rattle.std.specs.Prelude.{◌≡◌, ℕ, ◌/◌, ◌^◌, ◌<◌, ◌==◌, ◌||◌, IsTrue};
+ghost use Rattle.m4_model.specs.Field.{mul};
+ghost use Rattle.m4_field.specs.Fields.{the_field};
+ghost use Rattle.m4_model.specs.Field.{width};
+ghost use Rattle.m4_mzed.specs.Words.{element, AreElements};
+
+use m4_field::Field;
+
+/// The word whose elements, of so many bits each, are 1.
+#[inline]
+fn ones(width_bits: u32) -> u64
+    requires { IsTrue (width_bits == 1 || width_bits == 2 || width_bits == 4 || width_bits == 8 || width_bits == 16) }
+    ensures { (k : ℕ) → k < 64 / width_bits → element width_bits k result ≡ 1 }
+{
+    if width_bits == 1 {
+        u64::MAX
+    } else if width_bits == 2 {
+        0x5555_5555_5555_5555
+    } else if width_bits == 4 {
+        0x1111_1111_1111_1111
+    } else if width_bits == 8 {
+        0x0101_0101_0101_0101
+    } else {
+        0x0001_0001_0001_0001
+    }
+}
+
+/// Multiplies each of the elements of the word by `x`.
+#[inline]
+pub fn multiple(f: &Field, word: u64, x: u32) -> u64
+    requires elements { AreElements (the_field f.now) (width (the_field f.now)) word }
+    requires element { x < 2 ^ (the_field f.now).degree }
+    ensures { (k : ℕ) → k < 64 / width (the_field f.now) → element (width (the_field f.now)) k result ≡ mul (the_field f.now) (element (width (the_field f.now)) k word) x }
+{
+    let low = ones(f.width());
+    let mut factor = x;
+    let mut sum = 0;
+    for i in 0..f.e() {
+        sum ^= ((word >> i) & low) * u64::from(factor);
+        factor = f.times_x(factor);
+    }
+    sum
+}
+
+/// Multiplies each of the elements of the word by `x`. `W` is the width of the field's elements.
+#[inline]
+pub fn mul_word<const W: usize>(f: &Field, word: u64, x: u32) -> u64
+    requires wide { W ≡ width (the_field f.now) }
+    requires elements { AreElements (the_field f.now) W word }
+    requires element { x < 2 ^ (the_field f.now).degree }
+    ensures { (k : ℕ) → k < 64 / W → element W k result ≡ mul (the_field f.now) (element W k word) x }
+{
+    multiple(f, word, x)
+}
