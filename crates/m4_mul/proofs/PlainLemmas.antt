@@ -138,12 +138,12 @@ product_rows-more C A B i in_rows rows cols =
     ∙ (λ n. bit_xor (at-added_row C h i j in_rows within n) (at-table A.rows B.cols h i j below (rw cols within) n)))
 
 -- with every row, the product is added
-pub product_rows-all : (C A B : Matrix) (i : ℕ) → C.field ≡ gf2 → A.rows ≡ C.rows → B.cols ≡ C.cols → C.rows ≤ i
+pub product_rows-all : (C A B : Matrix) (i : ℕ) → A.rows ≡ C.rows → B.cols ≡ C.cols → C.rows ≤ i
     → added_rows C (all_terms A B) i ≡ added C (product A B)
-product_rows-all C A B i field rows cols end =
+product_rows-all C A B i rows cols end =
     let h = all_terms A B in
     added_rows-all C h i end
-    ∙ same_matrix C.field C.rows C.cols (λ r j. bit_xor (at C r j) (at (product A B) r j)) (matrix_of gf2 C.rows C.cols (λ r j. bit_xor (at C r j) (h r j))) (sym field) refl refl
+    ∙ same_matrix C.field C.rows C.cols (λ r j. bit_xor (at C r j) (at (product A B) r j)) (matrix_of C.field C.rows C.cols (λ r j. bit_xor (at C r j) (h r j))) refl refl refl
     (length-table C.rows C.cols (λ r j. bit_xor (at C r j) (h r j))) (length-row-table C.rows C.cols (λ r j. bit_xor (at C r j) (h r j)))
     (λ r j below within.
     at-table C.rows C.cols (λ r j. bit_xor (at C r j) (h r j)) r j below within

@@ -15,7 +15,7 @@ pub loop-i-init : goal.loop-i-init
 loop-i-init g c = record {
   sum =
       ap (showing c.args.c.now)
-      (added_rows-none (content c.args.c.now) (part_of_entry (shown c.args.a.now) (shown c.args.b.now) c.args.first c.args.width) refl c.rows-i-end.ensures.shape.matrix);
+      (added_rows-none (content c.args.c.now) (part_of_entry (shown c.args.a.now) (shown c.args.b.now) c.args.first c.args.width) c.rows-i-end.ensures.shape.matrix);
   ticks = omega arith;
 }
 

@@ -9,7 +9,7 @@ use Rattle.m4_mul.proofs.plain.add_product.Goals as goal
 pub loop-i-init : goal.loop-i-init
 loop-i-init g c =
     let W = c.args.c.now in
-    ap (showing W) (added_rows-none (content W) (all_terms (shown c.args.a.now) (shown c.args.b.now)) refl c.rows-i-end.ensures.shape.matrix)
+    ap (showing W) (added_rows-none (content W) (all_terms (shown c.args.a.now) (shown c.args.b.now)) c.rows-i-end.ensures.shape.matrix)
 
 pub loop-i-preserved : goal.loop-i-preserved
 loop-i-preserved g c =
@@ -25,4 +25,4 @@ pub returns : goal.returns
 returns g c =
     c.loop-i.invariant
     ∙ ap (showing c.args.c.now)
-    (product_rows-all (content c.args.c.now) (shown c.args.a.now) (shown c.args.b.now) c.loop-i.i refl c.requires.rows c.requires.cols (omega arith))
+    (product_rows-all (content c.args.c.now) (shown c.args.a.now) (shown c.args.b.now) c.loop-i.i c.requires.rows c.requires.cols (omega arith))
