@@ -1,4 +1,5 @@
 pub mod Bits
 pub mod Digits
+pub mod Products
 pub mod Shift
 pub mod Transpose

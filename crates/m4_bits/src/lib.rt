@@ -11,12 +11,14 @@ ghost use Rattle.m4_model.specs.Text.{words_per_row};
 ghost use Rattle.m4_bits.specs.Bits.{bit, last_bits, masked};
 
 mod digits;
+mod products;
 mod rows;
 mod shift;
 mod take;
 mod transpose;
 
 pub use digits::{put_digits, word_of_digits};
+pub use products::add_products;
 pub use rows::{
     clear, copy_into, swap_into, xor_from_column, xor_from2, xor_from3, xor_from4, xor_from5,
     xor_from6, xor_from7, xor_from8, xor_into,

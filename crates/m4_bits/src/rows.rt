@@ -184,7 +184,7 @@ pub fn clear(dst: &mut [u64], last: u64)
 }
 
 /// The bits of `new` under the mask, and those of `old` elsewhere.
-fn merge(old: u64, new: u64, mask: u64) -> u64
+pub(crate) fn merge(old: u64, new: u64, mask: u64) -> u64
     ensures { result ≡ merged mask old new }
 {
     old ^ ((old ^ new) & mask)

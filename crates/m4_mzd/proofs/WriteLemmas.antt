@@ -1,11 +1,13 @@
 -- A row of a window that is written in whole words: the entries that it holds then, and what the window is.
-use Rattle.std.proofs.Common.{◌≡◌, ◌≢◌, ℕ, inl, inr, ◌+◌, ◌-◌, ◌^◌, ◌<◌, ◌≤◌, List, [], length, get_or, set, take, drop, map, replicate, refl, sym, ◌∙◌, ap, subst, arith, bit_xor}
+use Rattle.std.proofs.Common.{◌≡◌, ◌≢◌, ℕ, inl, inr, ◌+◌, ◌-◌, ◌^◌, ◌<◌, ◌≤◌, List, [], length, get_or, set, take, drop, map, replicate, refl, sym, ◌∙◌, ap, subst, arith, bit_xor, ◌*◌, ◌/◌, ◌%◌}
+use Rattle.std.specs.Int.{bit_at}
 use Rattle.std.proofs.lemmas.Bool.{cases_eq, cases_lt}
-use Rattle.std.proofs.lemmas.List.{length-set, length-append, length-take-le, length-drop, length-replicate, get_or-set_same, get_or-set_other, get_or_append_left, get_or-append_right, get_or-take, get_or-drop, get_or-replicate, map-set, set-get_or}
+use Rattle.std.proofs.lemmas.List.{length-map, get_or-map, get_or_past, length-set, length-append, length-take-le, length-drop, length-replicate, get_or-set_same, get_or-set_other, get_or_append_left, get_or-append_right, get_or-take, get_or-drop, get_or-replicate, map-set, set-get_or}
 use Rattle.m4_model.specs.Matrix.{row, row_sum}
 use Rattle.m4_model.specs.Text.{words_per_row}
 use Rattle.m4_bits.specs.Bits.{bit, last_bits, masked, overlaid}
-use Rattle.m4_bits.proofs.BitsLemmas.{length-row_sum, get_or-row_sum, bit-sum_masked_below, bit-sum_masked_past}
+use Rattle.m4_bits.proofs.BitsLemmas.{length-row_sum, get_or-row_sum, length-masked, bit-masked_below, bit-masked_past, bit-sum_masked_below, bit-sum_masked_past}
+use Rattle.m4_bits.specs.Products.{products, row_products}
 use Rattle.m4_bits.proofs.OverlaidLemmas.{length-overlaid, bit-overlaid_below, bit-overlaid_past, bit-cleared_below, bit-cleared_past}
 use Rattle.m4_area.specs.Rectangle.{Rectangle}
 use Rattle.m4_area.specs.Rows.{row_of, with_row, refill}
@@ -15,6 +17,7 @@ use Rattle.m4_area.proofs.ShapeLemmas.{row_width}
 use Rattle.m4_mzd.specs.Window.{Window}
 use Rattle.m4_mzd.specs.Shown.{window, bits_within, bits_past, IsFramed}
 use Rattle.m4_mzd.specs.Seen.{shown, shown_rows}
+use Rattle.m4_mzd.specs.Products.{AreProducts}
 use Rattle.m4_mzd.specs.Rows.{sum_from}
 use Rattle.m4_mzd.specs.declared.win.Win.{Win}
 use Rattle.m4_mzd.proofs.BitRows.{get_or-bits_within, within_written, past_kept}
@@ -123,7 +126,7 @@ wrote_sum cols last old src new xs ys mask sum h g =
     }
 
 -- a row that was added from a column on
-get_or-sum_from : (c j : ℕ) (xs ys : List ℕ) → length xs ≡ length ys → c ≤ length xs → c ≤ j → get_or (sum_from c xs ys) j 0 ≡ bit_xor (get_or xs j 0) (get_or ys j 0)
+pub get_or-sum_from : (c j : ℕ) (xs ys : List ℕ) → length xs ≡ length ys → c ≤ length xs → c ≤ j → get_or (sum_from c xs ys) j 0 ≡ bit_xor (get_or xs j 0) (get_or ys j 0)
 get_or-sum_from c j xs ys same within past =
     let place : c + (j - c) ≡ j = omega arith in
     let tails : length (drop c xs) ≡ length (drop c ys) = omega (arith, length-drop c xs, length-drop c ys) in
@@ -132,11 +135,11 @@ get_or-sum_from c j xs ys same within past =
     ∙ ((λ i. bit_xor (get_or-drop c xs (j - c) 0 i) (get_or-drop c ys (j - c) 0 i))
     ∙ ap (λ k. bit_xor (get_or xs k 0) (get_or ys k 0)) place))
 
-get_or-sum_before : (c j : ℕ) (xs ys : List ℕ) → c ≤ length xs → j < c → get_or (sum_from c xs ys) j 0 ≡ get_or xs j 0
+pub get_or-sum_before : (c j : ℕ) (xs ys : List ℕ) → c ≤ length xs → j < c → get_or (sum_from c xs ys) j 0 ≡ get_or xs j 0
 get_or-sum_before c j xs ys within before =
     get_or_append_left (take c xs) (row_sum (drop c xs) (drop c ys)) 0 j (omega (arith, length-take-le c xs within)) ∙ get_or-take c xs j 0 before
 
-length-sum_from : (c : ℕ) (xs ys : List ℕ) → c ≤ length xs → length (sum_from c xs ys) ≡ length xs
+pub length-sum_from : (c : ℕ) (xs ys : List ℕ) → c ≤ length xs → length (sum_from c xs ys) ≡ length xs
 length-sum_from c xs ys within =
     omega (arith, length-append (take c xs) (row_sum (drop c xs) (drop c ys)), length-take-le c xs within, length-row_sum (drop c xs) (drop c ys), length-drop c xs)
 
@@ -163,6 +166,31 @@ wrote_tail cols last c old src new xs ys mask long within added stays h g =
       };
       kept = λ j past. sums j (omega arith) ∙ bit-sum_masked_past old src cols j same g.long past;
     }
+
+-- the products of the words of a row
+pub holds_products : (cols last n low : ℕ) (factors src xs ys : List ℕ) → last ≡ 2 ^ last_bits cols - 1 → Holds cols src xs → AreProducts n low factors xs ys
+    → Holds cols (row_products n low factors src last) ys
+holds_products cols last n low factors src xs ys mask h p =
+    let sources = masked src (2 ^ last_bits cols - 1) in
+    let P : ℕ → Type 0 = λ m. Holds cols (row_products n low factors src m) ys in
+    subst P (sym mask) (record {
+      long = length-map sources (products n low factors) ∙ length-masked src (2 ^ last_bits cols - 1) ∙ h.long;
+      entries_long = p.long ∙ h.entries_long;
+      bits = λ j inside.
+          let within : j / 64 < length sources = omega (arith, length-masked src (2 ^ last_bits cols - 1), h.long, inside) in
+          p.bits (get_or sources (j / 64) 0) j (omega (arith, h.entries_long, inside)) (λ i small. reads (j / 64) i small)
+          ∙ ap (λ w. bit_at w (j % 64)) (sym (get_or-map (products n low factors) sources (j / 64) 0 0 within));
+    })
+  where
+    reads : (w i : ℕ) → i < 64 → bit_at (get_or (masked src (2 ^ last_bits cols - 1)) w 0) i ≡ get_or xs (w * 64 + i) 0
+    reads w i small =
+        let word : (w * 64 + i) / 64 ≡ w = omega (arith, small) in
+        let place : (w * 64 + i) % 64 ≡ i = omega (arith, small) in
+        (λ k. bit_at (get_or (masked src (2 ^ last_bits cols - 1)) (sym word k) 0) (sym place k))
+        ∙ (elim (cases_lt (w * 64 + i) cols) [
+          | inl inside ↦ bit-masked_below src cols (w * 64 + i) h.long inside ∙ sym (h.bits (w * 64 + i) inside)
+          | inr past ↦ bit-masked_past src cols (w * 64 + i) h.long past ∙ sym (get_or_past xs (w * 64 + i) 0 (omega (arith, h.entries_long, past)))
+        ])
 
 -- a row that was copied
 pub wrote_copy : (cols last : ℕ) (old src new xs ys : List ℕ) → last ≡ 2 ^ last_bits cols - 1 → new ≡ overlaid old src last

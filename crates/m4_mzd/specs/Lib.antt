@@ -2,6 +2,7 @@ pub mod Around
 pub mod Held
 pub mod Home
 pub mod Parts
+pub mod Products
 pub mod Quarters
 pub mod Rectangles
 pub mod Reach

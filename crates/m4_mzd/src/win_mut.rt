@@ -12,6 +12,7 @@ mod lent;
 mod many;
 mod pairs;
 mod parts;
+mod products;
 mod rows;
 mod see;
 mod shifted;

@@ -2,12 +2,16 @@ pub mod AddedRows
 pub mod BitLemmas
 pub mod ElementLemmas
 pub mod EntryLemmas
+pub mod FactorLemmas
 pub mod IndexLemmas
 pub mod MultipleLemmas
+pub mod PairLemmas
 pub mod PartLemmas
+pub mod ProductLemmas
 pub mod PutLemmas
 pub mod RectLemmas
 pub mod RowLemmas
+pub mod ScaledRows
 pub mod SeenLemmas
 pub mod SumLemmas
 pub mod WordLemmas

@@ -2,9 +2,9 @@
 use Rattle.std.proofs.Common.{◌≡◌, ℕ, zero, suc, ◌+◌, ◌*◌, ◌/◌, ◌%◌, ◌^◌, ◌<◌, sym, ◌∙◌, ap, ap₂, subst, arith, bit_xor, bit_and}
 use Rattle.std.specs.Int.{bit_at}
 use Rattle.std.specs.Int.Bits.{xor_comm, xor_shifted}
-use Rattle.std.proofs.Math.Nat.{pow-suc, div-le_self}
+use Rattle.std.proofs.Math.Nat.{pow-suc}
 use Rattle.std.proofs.Math.Pow.{pow_pos, pow_mono}
-use Rattle.std.proofs.lemmas.Nat.{mod-pow-add, and_le_l}
+use Rattle.std.proofs.lemmas.Nat.{mod-pow-add, and_le_r}
 use Rattle.std.proofs.lemmas.Nat.Bits.{bit_at-lt}
 use Rattle.m4_model.specs.Field.{Field, mul}
 use Rattle.m4_model.specs.Field.{IsCarried}
@@ -47,13 +47,13 @@ next_power F carried i x below =
     ∙ ap (λ y. mul F y x) (times_x-low F carried (2 ^ i) small ∙ p)
 
 -- the places of a word whose bit i is 1, times a factor
-pub bits_times : (w i word low factor : ℕ) → i < w → 64 / w * w ≡ 64 → word < 2 ^ 64 → factor < 2 ^ w → ((k : ℕ) → k < 64 / w → element w k low ≡ 1)
+pub bits_times : (w i word low factor : ℕ) → i < w → 64 / w * w ≡ 64 → low < 2 ^ 64 → factor < 2 ^ w → ((k : ℕ) → k < 64 / w → element w k low ≡ 1)
     → Times w (64 / w) (bit_and (word / 2 ^ i) low) factor
 bits_times w i word low factor within whole small below ones =
     times w (64 / w) (bit_and (word / 2 ^ i) low) factor
     (λ k k_below. let l = bit_at-lt (element w k word) i in let e = element-bit w k word i low within (ones k k_below) in omega (arith, l, e))
     (let P : ℕ → Type 0 = λ n. bit_and (word / 2 ^ i) low < 2 ^ n in
-    subst P (sym whole) (let a = and_le_l (word / 2 ^ i) low in let d = div-le_self word (2 ^ i) in omega (arith, a, d, small)))
+    subst P (sym whole) (let a = and_le_r (word / 2 ^ i) low in omega (arith, a, small)))
     below
 
 -- one more bit of each element

@@ -177,12 +177,12 @@ module _ (F : Field) (n m : ℕ) (P Q : Matrix) (w : Window) (r0 c0 : ℕ) (is :
 
   in_part : (i j : ℕ) → ((nat_le r0 i && nat_lt i (r0 + w.rows)) && (nat_le c0 j && nat_lt j (c0 + m))) ≡ true → (i - r0 < w.rows) × (c0 ≤ j) × (j - c0 < m)
   in_part i j b =
-      let r = and_left _ _ b in
-      let c = and_right _ _ b in
-      let r_low : r0 ≤ i = leb-true r0 i (and_left _ _ r) in
-      let r_high : i < r0 + w.rows = ltb-true i (r0 + w.rows) (and_right _ _ r) in
-      let c_low : c0 ≤ j = leb-true c0 j (and_left _ _ c) in
-      let c_high : j < c0 + m = ltb-true j (c0 + m) (and_right _ _ c) in
+      let r : (nat_le r0 i && nat_lt i (r0 + w.rows)) ≡ true = and_left (nat_le r0 i && nat_lt i (r0 + w.rows)) (nat_le c0 j && nat_lt j (c0 + m)) b in
+      let c : (nat_le c0 j && nat_lt j (c0 + m)) ≡ true = and_right (nat_le r0 i && nat_lt i (r0 + w.rows)) (nat_le c0 j && nat_lt j (c0 + m)) b in
+      let r_low : r0 ≤ i = leb-true r0 i (and_left (nat_le r0 i) (nat_lt i (r0 + w.rows)) r) in
+      let r_high : i < r0 + w.rows = ltb-true i (r0 + w.rows) (and_right (nat_le r0 i) (nat_lt i (r0 + w.rows)) r) in
+      let c_low : c0 ≤ j = leb-true c0 j (and_left (nat_le c0 j) (nat_lt j (c0 + m)) c) in
+      let c_high : j < c0 + m = ltb-true j (c0 + m) (and_right (nat_le c0 j) (nat_lt j (c0 + m)) c) in
       (omega (arith, r_low, r_high), c_low, omega (arith, c_low, c_high))
 
   small_h : (i j : ℕ) → i < Q.rows → j < n → IsElement F (cond ((nat_le r0 i && nat_lt i (r0 + w.rows)) && (nat_le c0 j && nat_lt j (c0 + m))) (at (content (elements F m w)) (i - r0) (j - c0)) (at (e_matrix F n P) i j))

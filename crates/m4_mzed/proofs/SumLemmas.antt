@@ -1,5 +1,5 @@
 -- A multiple of one row of elements added to another, word by word.
-use Rattle.std.proofs.Common.{◌≡◌, ℕ, suc, ◌+◌, ◌*◌, ◌/◌, ◌%◌, ◌<◌, ◌≤◌, inl, inr, List, [], length, get_or, set, sym, ◌∙◌, ap, ap₂, subst, arith, bit_xor, mod-eq_of_lt, cond, nat_eq}
+use Rattle.std.proofs.Common.{◌≡◌, ℕ, suc, ◌+◌, ◌*◌, ◌/◌, ◌%◌, ◌<◌, ◌≤◌, inl, inr, List, [], length, get_or, set, sym, ◌∙◌, ap, ap₂, subst, arith, mod-eq_of_lt, cond, nat_eq}
 use Rattle.std.specs.Int.{bit_at}
 use Rattle.std.proofs.Math.Nat.{mul-add-mod_self_right, div-lt_iff_lt-mul}
 use Rattle.std.proofs.Math.Pow.{pow_pos}
@@ -8,10 +8,7 @@ use Rattle.std.proofs.lemmas.Nat.Bits.{bit_at-zero, same_from_bits_below}
 use Rattle.std.proofs.lemmas.Bool.{cases_lt, cases_eq, cond-true, cond-false, eq-eqb, ne_eqb}
 use Rattle.std.proofs.lemmas.List.{get_or_past, get_or-set_same, length-set, set-set}
 use Rattle.std.proofs.lemmas.List.FromFn.{length-map-range_with_len, get_or-map-range_with_len}
-use Rattle.m4_model.specs.Field.{Field, mul}
-use Rattle.m4_model.specs.Matrix.{row, at, with_row}
-use Rattle.m4_bits.proofs.BitsLemmas.{bit_at-xor}
-use Rattle.m4_model.specs.Field.{width}
+use Rattle.m4_model.specs.Matrix.{row, with_row}
 use Rattle.m4_mzd.specs.Window.{Window, content, showing}
 use Rattle.m4_mzd.specs.Rows.{with_word}
 use Rattle.m4_mzed.specs.Words.{element}
@@ -75,32 +72,25 @@ module _ (k m : ℕ) (whole : m * k ≡ 64) where
       ∙ ap (λ x. bit_at x (q % k)) (elements (q / k) i_below)
       ∙ sym (ap₂ (λ e v. bit_at (told e) v) (place_element w q) (place_bit w q))
 
--- the bits of x times the elements of a row
-abbrev pub bits_of_multiple : Field → ℕ → List ℕ → ℕ → ℕ → ℕ
-bits_of_multiple F n xs x p = bit_at (mul F (get_or (unpacked (width F) n xs) (p / width F) 0) x) (p % width F)
-
--- the words before word w have the bits of g added to them
-pub record AddedTo (limit w : ℕ) (g : ℕ → ℕ) (old now : List ℕ) : Type 0 where
-  pub done : (p : ℕ) → p < limit → p < w * 64 → get_or now p 0 ≡ bit_xor (get_or old p 0) (g p)
+-- the words before word w have the bits of g, and the others are as they were
+pub record SetTo (limit w : ℕ) (g : ℕ → ℕ) (old now : List ℕ) : Type 0 where
+  pub done : (p : ℕ) → p < limit → p < w * 64 → get_or now p 0 ≡ g p
   pub rest : (p : ℕ) → p < limit → w * 64 ≤ p → get_or now p 0 ≡ get_or old p 0
 
-pub added_more : (limit w : ℕ) (g : ℕ → ℕ) (old now : List ℕ) (word product : ℕ) → length now ≡ limit
-    → ((j : ℕ) → j < 64 → bit_at word j ≡ get_or now (w * 64 + j) 0) → ((q : ℕ) → q < 64 → bit_at product q ≡ g (w * 64 + q))
-    → AddedTo limit w g old now → AddedTo limit (w + 1) g old (with_word w (bit_xor word product) now)
-added_more limit w g old now word product long reads gives so_far = record {
+pub set_more : (limit w : ℕ) (g : ℕ → ℕ) (old now : List ℕ) (product : ℕ) → length now ≡ limit
+    → ((q : ℕ) → q < 64 → w * 64 + q < limit → bit_at product q ≡ g (w * 64 + q)) → SetTo limit w g old now → SetTo limit (w + 1) g old (with_word w product now)
+set_more limit w g old now product long gives so_far = record {
   done = λ p inside below. elim (cases_eq (p / 64) w) [
     | inl here ↦
         let q_small : p % 64 < 64 = omega arith in
         let place : w * 64 + p % 64 ≡ p = omega (arith, here) in
-        let value = bit_xor word product in
-        at p inside ∙ cond-true _ _ _ (eq-eqb (p / 64) w here) ∙ bit_at-xor word product (p % 64)
-        ∙ ap₂ bit_xor (reads (p % 64) q_small ∙ ap (λ n. get_or now n 0) place ∙ so_far.rest p inside (omega (arith, here))) (gives (p % 64) q_small ∙ ap g place)
+        at p inside ∙ cond-true _ _ _ (eq-eqb (p / 64) w here) ∙ gives (p % 64) q_small (omega (arith, place, inside)) ∙ ap g place
     | inr away ↦ at p inside ∙ cond-false _ _ _ (ne_eqb (p / 64) w away) ∙ so_far.done p inside (omega (arith, away, below))
   ];
   rest = λ p inside past. at p inside ∙ cond-false _ _ _ (ne_eqb (p / 64) w (λ here. omega (arith, here, past))) ∙ so_far.rest p inside (omega (arith, past));
 }
   where
-    at : (p : ℕ) → p < limit → get_or (with_word w (bit_xor word product) now) p 0 ≡ cond (nat_eq (p / 64) w) (bit_at (bit_xor word product) (p % 64)) (get_or now p 0)
+    at : (p : ℕ) → p < limit → get_or (with_word w product now) p 0 ≡ cond (nat_eq (p / 64) w) (bit_at product (p % 64)) (get_or now p 0)
     at p inside = get_or-map-range_with_len _ 0 (length now) p p 0 (omega (arith, long, inside)) (omega arith)
 
 -- a window with row r written again
@@ -117,21 +107,3 @@ written_again first now next r new within kept written =
 
 pub length-with_word : (w value : ℕ) (xs : List ℕ) → length (with_word w value xs) ≡ length xs
 length-with_word w value xs = length-map-range_with_len _ 0 (length xs)
-
--- a step: word w of the row is written
-pub step : (F : Field) (n m x : ℕ) (xs : List ℕ) (first now next : Window) (r w word product : ℕ) → m * width F ≡ 64 → r < length first.bits
-    → now ≡ showing first (with_row (content first) r (row (content now) r)) → length (row (content now) r) ≡ first.cols
-    → ((j : ℕ) → j < 64 → bit_at word j ≡ at (content now) r (w * 64 + j))
-    → ((i : ℕ) → i < m → element (width F) i product ≡ mul F (get_or (unpacked (width F) n xs) (w * m + i) 0) x)
-    → next ≡ showing now (with_row (content now) r (with_word w (bit_xor word product) (row (content now) r)))
-    → AddedTo first.cols w (bits_of_multiple F n xs x) (row (content first) r) (row (content now) r)
-    → (next ≡ showing first (with_row (content first) r (row (content next) r)))
-    × AddedTo first.cols (w + 1) (bits_of_multiple F n xs x) (row (content first) r) (row (content next) r)
-    × (length (row (content next) r) ≡ first.cols)
-step F n m x xs first now next r w word product whole within kept long reads elements written so_far =
-    let again = written_again first now next r (with_word w (bit_xor word product) (row (content now) r)) within kept written in
-    let told : ℕ → ℕ = λ e. mul F (get_or (unpacked (width F) n xs) e 0) x in
-    let more = added_more first.cols w (bits_of_multiple F n xs x) (row (content first) r) (row (content now) r) word product long reads
-    (λ q below. told_bit (width F) m whole told w product elements q below) so_far in
-    let P : List ℕ → Type 0 = AddedTo first.cols (w + 1) (bits_of_multiple F n xs x) (row (content first) r) in
-    (again.1, subst P (sym again.0) more, ap length again.0 ∙ length-with_word w (bit_xor word product) (row (content now) r) ∙ long)

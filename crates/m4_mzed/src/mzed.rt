@@ -4,6 +4,8 @@ ghost use Rattle.std.specs.Prelude.{◌≡◌, ◌*◌, ◌^◌, ◌<◌, ◌≤
 ghost use Rattle.m4_model.specs.Field.{gf2, width};
 ghost use Rattle.m4_model.specs.Matrix.{IsMatrix, at, with_entry, zero_matrix};
 ghost use Rattle.m4_field.specs.Fields.{the_field};
+ghost use Rattle.m4_mzed.specs.Owned.{e_matrix};
+ghost use Rattle.m4_mzed.specs.PackedIn.{IsPackedIn};
 
 use m4_field::Field;
 use m4_model::NoMemory;
@@ -67,6 +69,14 @@ impl Mzed {
     {
         let _rows = self.bits.rows();
         self.bits
+    }
+
+    /// A matrix of bits in which so many elements of this field are packed in each row.
+    pub fn of_packed(field: Field, cols: u32, bits: Mzd) -> Mzed
+        requires { IsPackedIn (the_field field) cols bits }
+        ensures { result ≡ e_matrix (the_field field) cols bits }
+    {
+        Mzed { field, cols, bits }
     }
 
     /// The matrix once more, in memory of its own.

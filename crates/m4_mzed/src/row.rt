@@ -1,59 +1,22 @@
-//! A multiple of one row added to another, word by word.
+//! Rows of bits that hold elements: multiples of one are added to another, a row is scaled, and an element is written.
 
 ghost use Rattle.std.specs.Prelude.{◌≡◌, ℕ, ◌+◌, ◌*◌, ◌/◌, ◌%◌, ◌^◌, ◌<◌, ◌≤◌, ◌==◌, bit_xor, slice_index, if◌then◌else◌};
 ghost use Rattle.std.specs.Int.{bit_at};
-ghost use Rattle.m4_model.specs.Field.{mul};
+ghost use Rattle.m4_model.specs.Field.{mul, width};
 ghost use Rattle.m4_model.specs.Matrix.{at, row, with_row};
+ghost use Rattle.m4_field.specs.Fields.{the_field};
 ghost use Rattle.m4_mzd.specs.Window.{content, showing};
 ghost use Rattle.m4_mzd.specs.Seen.{shown};
-ghost use Rattle.m4_field.specs.Fields.{the_field};
-ghost use Rattle.m4_model.specs.Field.{width};
+ghost use Rattle.m4_mzd.specs.Rows.{sum_from};
 ghost use Rattle.m4_mzed.specs.Packed.{unpacked, IsPackedRow};
+ghost use Rattle.m4_mzed.specs.Rows.{packed_multiples};
 
-use crate::word::multiple;
+use crate::word::{multiple, ones};
 use m4_bits::words_for;
 use m4_field::Field;
 use m4_mzd::{Win, WinMut};
 
-/// Adds `x` times row `s` of `from`, which holds `cols` elements, to row `r`.
-pub(crate) fn add_words(f: &Field, cols: u32, bits: &mut WinMut, r: u32, from: &Win, s: u32, x: u32)
-    requires in_rows { r < bits.old.rows }
-    requires in_from { s < (shown from.now).rows }
-    requires wide { bits.old.cols ≡ cols * width (the_field f.now) }
-    requires same_cols { (shown from.now).cols ≡ bits.old.cols }
-    requires source { IsPackedRow (the_field f.now) cols (row (shown from.now) s) }
-    requires element { x < 2 ^ (the_field f.now).degree }
-    ensures kept { bits.new ≡ showing bits.old (with_row (content bits.old) r (row (content bits.new) r)) }
-    ensures entries { (j v : ℕ) → j < cols → v < width (the_field f.now)
-        → at (content bits.new) r (j * width (the_field f.now) + v) ≡ bit_xor (at (content bits.old) r (j * width (the_field f.now) + v)) (bit_at (mul (the_field f.now) (slice_index (unpacked (width (the_field f.now)) cols (row (shown from.now) s)) j) x) v) }
-{
-    let _rows = bits.rows();
-    let _from = from.rows();
-    for w in 0..words_for(bits.cols()) {
-        let product = multiple(f, from.word(s, w), x);
-        let sum = bits.word(r, w) ^ product;
-        bits.set_word(r, w, sum);
-    }
-}
-
-/// Adds row `s` of `from` to row `r`, as its multiple by 1.
-pub(crate) fn add_whole(f: &Field, cols: u32, bits: &mut WinMut, r: u32, from: &Win, s: u32)
-    requires in_rows { r < bits.old.rows }
-    requires in_from { s < (shown from.now).rows }
-    requires wide { bits.old.cols ≡ cols * width (the_field f.now) }
-    requires same_cols { (shown from.now).cols ≡ bits.old.cols }
-    requires source { IsPackedRow (the_field f.now) cols (row (shown from.now) s) }
-    ensures kept { bits.new ≡ showing bits.old (with_row (content bits.old) r (row (content bits.new) r)) }
-    ensures entries { (j v : ℕ) → j < cols → v < width (the_field f.now)
-        → at (content bits.new) r (j * width (the_field f.now) + v) ≡ bit_xor (at (content bits.old) r (j * width (the_field f.now) + v)) (bit_at (mul (the_field f.now) (slice_index (unpacked (width (the_field f.now)) cols (row (shown from.now) s)) j) 1) v) }
-{
-    let _rows = bits.rows();
-    let _from = from.rows();
-    let _degree = f.e();
-    bits.add_tail(r, from, s, 0);
-}
-
-/// Adds `x` times row `s` of `from` to row `r`.
+/// Adds `x` times row `s` of `from`, which holds `cols` elements, to row `r`, in the columns from `c` on.
 pub(crate) fn add_scaled(
     f: &Field,
     cols: u32,
@@ -62,6 +25,7 @@ pub(crate) fn add_scaled(
     from: &Win,
     s: u32,
     x: u32,
+    c: u32,
 )
     requires in_rows { r < bits.old.rows }
     requires in_from { s < (shown from.now).rows }
@@ -69,15 +33,91 @@ pub(crate) fn add_scaled(
     requires same_cols { (shown from.now).cols ≡ bits.old.cols }
     requires source { IsPackedRow (the_field f.now) cols (row (shown from.now) s) }
     requires element { x < 2 ^ (the_field f.now).degree }
-    ensures kept { bits.new ≡ showing bits.old (with_row (content bits.old) r (row (content bits.new) r)) }
-    ensures entries { (j v : ℕ) → j < cols → v < width (the_field f.now)
-        → at (content bits.new) r (j * width (the_field f.now) + v) ≡ bit_xor (at (content bits.old) r (j * width (the_field f.now) + v)) (bit_at (mul (the_field f.now) (slice_index (unpacked (width (the_field f.now)) cols (row (shown from.now) s)) j) x) v) }
+    requires in_cols { c ≤ cols }
+    ensures { bits.new ≡ showing bits.old (with_row (content bits.old) r (sum_from (c * width (the_field f.now)) (row (content bits.old) r) (packed_multiples (the_field f.now) cols x (row (shown from.now) s)))) }
 {
+    let _rows = bits.rows();
+    let _from = from.rows();
+    let first = c * f.width();
     if x == 1 {
-        add_whole(f, cols, bits, r, from, s);
-    } else {
-        add_words(f, cols, bits, r, from, s, x);
+        bits.add_tail(r, from, s, first);
+    } else if x != 0 {
+        add_products(f, cols, bits, r, from, s, x, first);
     }
+}
+
+/// The same for any `x`, from bit `first` on, by the kernel that is made for the width.
+fn add_products(
+    f: &Field,
+    cols: u32,
+    bits: &mut WinMut,
+    r: u32,
+    from: &Win,
+    s: u32,
+    x: u32,
+    first: u32,
+)
+    requires in_rows { r < bits.old.rows }
+    requires in_from { s < (shown from.now).rows }
+    requires wide { bits.old.cols ≡ cols * width (the_field f.now) }
+    requires same_cols { (shown from.now).cols ≡ bits.old.cols }
+    requires source { IsPackedRow (the_field f.now) cols (row (shown from.now) s) }
+    requires element { x < 2 ^ (the_field f.now).degree }
+    requires in_cols { first ≤ bits.old.cols }
+    ensures { bits.new ≡ showing bits.old (with_row (content bits.old) r (sum_from first (row (content bits.old) r) (packed_multiples (the_field f.now) cols x (row (shown from.now) s)))) }
+{
+    let _degree = f.e();
+    match f.width() {
+        1 => add_by::<1>(f, cols, bits, r, from, s, x, first),
+        2 => add_by::<2>(f, cols, bits, r, from, s, x, first),
+        4 => add_by::<4>(f, cols, bits, r, from, s, x, first),
+        8 => add_by::<8>(f, cols, bits, r, from, s, x, first),
+        _ => add_by::<16>(f, cols, bits, r, from, s, x, first),
+    }
+}
+
+/// The same with the products of `N` factors, as many as an element has bits at most.
+fn add_by<const N: usize>(
+    f: &Field,
+    cols: u32,
+    bits: &mut WinMut,
+    r: u32,
+    from: &Win,
+    s: u32,
+    x: u32,
+    first: u32,
+)
+    requires enough { (the_field f.now).degree ≤ N }
+    requires few { N ≤ 16 }
+    requires in_rows { r < bits.old.rows }
+    requires in_from { s < (shown from.now).rows }
+    requires wide { bits.old.cols ≡ cols * width (the_field f.now) }
+    requires same_cols { (shown from.now).cols ≡ bits.old.cols }
+    requires source { IsPackedRow (the_field f.now) cols (row (shown from.now) s) }
+    requires element { x < 2 ^ (the_field f.now).degree }
+    requires in_cols { first ≤ bits.old.cols }
+    ensures { bits.new ≡ showing bits.old (with_row (content bits.old) r (sum_from first (row (content bits.old) r) (packed_multiples (the_field f.now) cols x (row (shown from.now) s)))) }
+{
+    let _from = from.rows();
+    let low = ones(f.width());
+    bits.add_products(r, from, s, first, low, &factors::<N>(f, x));
+}
+
+/// The multiples of `x` by the powers of x that an element has, and zeros after them.
+fn factors<const N: usize>(f: &Field, x: u32) -> [u64; N]
+    requires enough { (the_field f.now).degree ≤ N }
+    requires element { x < 2 ^ (the_field f.now).degree }
+    ensures powers { (i : ℕ) → i < (the_field f.now).degree → slice_index result i ≡ mul (the_field f.now) (2 ^ i) x }
+    ensures elements { (i : ℕ) → slice_index result i < 2 ^ (the_field f.now).degree }
+    ensures rest { (i : ℕ) → (the_field f.now).degree ≤ i → slice_index result i ≡ 0 }
+{
+    let mut list = [0u64; N];
+    let mut factor = x;
+    for i in 0..f.e() {
+        list[i as usize] = u64::from(factor);
+        factor = f.times_x(factor);
+    }
+    list
 }
 
 /// Adds `d` to element `c` of row `r`.
@@ -94,4 +134,19 @@ pub(crate) fn add_to_element(f: &Field, cols: u32, bits: &mut WinMut, r: u32, c:
     let w = place / 64;
     let sum = bits.word(r, w) ^ (u64::from(d) << (place % 64));
     bits.set_word(r, w, sum);
+}
+
+/// Makes row `r`, which holds `cols` elements, `x` times what it was.
+pub(crate) fn scale(f: &Field, cols: u32, bits: &mut WinMut, r: u32, x: u32)
+    requires in_rows { r < bits.old.rows }
+    requires wide { bits.old.cols ≡ cols * width (the_field f.now) }
+    requires source { IsPackedRow (the_field f.now) cols (row (content bits.old) r) }
+    requires element { x < 2 ^ (the_field f.now).degree }
+    ensures { bits.new ≡ showing bits.old (with_row (content bits.old) r (packed_multiples (the_field f.now) cols x (row (content bits.old) r))) }
+{
+    let _rows = bits.rows();
+    for w in 0..words_for(bits.cols()) {
+        let product = multiple(f, bits.word(r, w), x);
+        bits.set_word(r, w, product);
+    }
 }

@@ -13,6 +13,7 @@ use std::marker::Model;
 
 mod bits;
 mod lent;
+mod pairs;
 mod parts;
 mod rows;
 mod see;

@@ -10,9 +10,10 @@ use m4_field::Field;
 
 /// The word whose elements, of so many bits each, are 1.
 #[inline]
-fn ones(width_bits: u32) -> u64
+pub(crate) fn ones(width_bits: u32) -> u64
     requires { IsTrue (width_bits == 1 || width_bits == 2 || width_bits == 4 || width_bits == 8 || width_bits == 16) }
-    ensures { (k : ℕ) → k < 64 / width_bits → element width_bits k result ≡ 1 }
+    ensures ones { (k : ℕ) → k < 64 / width_bits → element width_bits k result ≡ 1 }
+    ensures word { result < 2 ^ 64 }
 {
     if width_bits == 1 {
         u64::MAX

@@ -1,14 +1,15 @@
-//! Whole rows of a window: multiples of rows are added to them, and they are swapped.
+//! Whole rows of a window: multiples of rows are added to them, and they are scaled, copied, cleared and swapped.
 
-ghost use Rattle.std.specs.Prelude.{◌≡◌, ◌<◌, ◌^◌};
+ghost use Rattle.std.specs.Prelude.{◌≡◌, ◌<◌, ◌≤◌, ◌^◌, replicate};
 ghost use Rattle.std.specs.List.{swap};
-ghost use Rattle.m4_model.specs.Matrix.{row, row_sum, with_row};
+ghost use Rattle.m4_model.specs.Matrix.{row, row_sum, with_row, zero_matrix};
+ghost use Rattle.m4_mzd.specs.Rows.{sum_from};
 ghost use Rattle.m4_mzed.specs.EWindow.{content, showing};
 ghost use Rattle.m4_mzed.specs.ESeen.{e_shown};
 ghost use Rattle.m4_mzed.specs.Rows.{multiples};
 
 use super::EWinMut;
-use crate::row::add_scaled;
+use crate::row::{add_scaled, scale};
 use crate::win::EWin;
 
 impl EWinMut {
@@ -22,10 +23,73 @@ impl EWinMut {
         requires element { x < 2 ^ self.old.field.degree }
         ensures { self.new ≡ showing self.old (with_row (content self.old) r (row_sum (row (content self.old) r) (multiples self.old.field x (row (e_shown from.now) s)))) }
     {
+        self.add_tail(r, from, s, x, 0);
+    }
+
+    /// Adds `x` times row `s` of `from`, a window over the same field of as many columns, to row `r`, in the columns from `c`
+    /// on. All else stays.
+    #[inline]
+    pub fn add_tail(&mut self, r: u32, from: &EWin, s: u32, x: u32, c: u32)
+        requires in_rows { r < self.old.rows }
+        requires in_from { s < (e_shown from.now).rows }
+        requires same_cols { (e_shown from.now).cols ≡ self.old.cols }
+        requires same_field { (e_shown from.now).field ≡ self.old.field }
+        requires element { x < 2 ^ self.old.field.degree }
+        requires in_cols { c ≤ self.old.cols }
+        ensures { self.new ≡ showing self.old (with_row (content self.old) r (sum_from c (row (content self.old) r) (multiples self.old.field x (row (e_shown from.now) s)))) }
+    {
         let _rows = self.bits.rows();
         let field = self.field;
-        add_scaled(&field, self.cols, &mut self.bits, r, &from.bits, s, x);
-        let _new_rows = self.bits.rows();
+        add_scaled(&field, self.cols, &mut self.bits, r, &from.bits, s, x, c);
+    }
+
+    /// Makes row `r` `x` times what it was. All else stays.
+    #[inline]
+    pub fn scale_row(&mut self, r: u32, x: u32)
+        requires in_rows { r < self.old.rows }
+        requires element { x < 2 ^ self.old.field.degree }
+        ensures { self.new ≡ showing self.old (with_row (content self.old) r (multiples self.old.field x (row (content self.old) r))) }
+    {
+        let field = self.field;
+        scale(&field, self.cols, &mut self.bits, r, x);
+    }
+
+    /// Copies row `s` of `from`, a window over the same field of as many columns, over row `r`. All else stays.
+    #[inline]
+    pub fn copy_row(&mut self, r: u32, from: &EWin, s: u32)
+        requires in_rows { r < self.old.rows }
+        requires in_from { s < (e_shown from.now).rows }
+        requires same_cols { (e_shown from.now).cols ≡ self.old.cols }
+        requires same_field { (e_shown from.now).field ≡ self.old.field }
+        ensures { self.new ≡ showing self.old (with_row (content self.old) r (row (e_shown from.now) s)) }
+    {
+        self.bits.copy_row(r, &from.bits, s);
+    }
+
+    /// Copies all rows of `from`, a window of the same field and shape. All else stays.
+    pub fn copy_rows(&mut self, from: &EWin)
+        requires same_rows { (e_shown from.now).rows ≡ self.old.rows }
+        requires same_cols { (e_shown from.now).cols ≡ self.old.cols }
+        requires same_field { (e_shown from.now).field ≡ self.old.field }
+        ensures { self.new ≡ showing self.old (e_shown from.now) }
+    {
+        self.bits.copy_rows(&from.bits);
+    }
+
+    /// Makes every entry of row `r` 0. All else stays.
+    #[inline]
+    pub fn clear_row(&mut self, r: u32)
+        requires { r < self.old.rows }
+        ensures { self.new ≡ showing self.old (with_row (content self.old) r (replicate self.old.cols 0)) }
+    {
+        self.bits.clear_row(r);
+    }
+
+    /// Makes every entry 0.
+    pub fn clear(&mut self)
+        ensures { self.new ≡ showing self.old (zero_matrix self.old.field self.old.rows self.old.cols) }
+    {
+        self.bits.clear();
     }
 
     /// Swaps rows `i` and `j`. All else stays.
@@ -36,5 +100,18 @@ impl EWinMut {
         ensures { self.new ≡ record self.old { entries = swap self.old.entries i j } }
     {
         self.bits.swap_rows(i, j);
+    }
+
+    /// Swaps row `r` and row `s` of another window over the same field of as many columns. All else stays.
+    #[inline]
+    pub fn swap_with(&mut self, r: u32, other: &mut EWinMut, s: u32)
+        requires in_rows { r < self.old.rows }
+        requires in_other { s < other.old.rows }
+        requires same_cols { other.old.cols ≡ self.old.cols }
+        requires same_field { other.old.field ≡ self.old.field }
+        ensures here { self.new ≡ showing self.old (with_row (content self.old) r (row (content other.old) s)) }
+        ensures there { other.new ≡ showing other.old (with_row (content other.old) s (row (content self.old) r)) }
+    {
+        self.bits.swap_with(r, &mut other.bits, s);
     }
 }

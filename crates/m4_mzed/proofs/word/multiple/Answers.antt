@@ -40,7 +40,7 @@ overflow_mul-sum c =
     let f = facts F c.args.f.now.carried w refl in
     let i_below : c.loop-i.i < w = let t = c.loop-i-test.true in let l = f.0 in let e = c.e-i-end.ensures.degree in omega (arith, t, l, e) in
     let small : c.from.result < 2 ^ w = let P : ℕ → Type 0 = λ n. n < 2 ^ w in subst P (sym c.from.ensures) (factor_small F w c.loop-i.factor f.0 c.loop-i.invariant.0) in
-    let t = bits_times w c.loop-i.i c.args.word c.ones-low.result c.from.result i_below f.1 c.ranges.word.fits small (ones_are c.width.result c.ones-low.result w c.width.ensures.width c.ones-low.ensures) in
+    let t = bits_times w c.loop-i.i c.args.word c.ones-low.result c.from.result i_below f.1 c.ones-low.ensures.word small (ones_are c.width.result c.ones-low.result w c.width.ensures.width c.ones-low.ensures.ones) in
     let P : ℕ → Type 0 = λ n. bit_and (c.args.word / 2 ^ c.loop-i.i) c.ones-low.result * c.from.result < 2 ^ n in
     Fits-of_lt (subst P f.1 t.fits)
 
@@ -53,10 +53,10 @@ loop-i-preserved c =
     let i_below : c.loop-i.i < F.degree = let t = c.loop-i-test.true in let e = c.e-i-end.ensures.degree in omega (arith, t, e) in
     let small : c.from.result < 2 ^ w = let P : ℕ → Type 0 = λ n. n < 2 ^ w in subst P (sym c.from.ensures) (factor_small F w c.loop-i.factor f.0 c.loop-i.invariant.0) in
     let within : c.loop-i.i < w = let l = f.0 in omega (arith, i_below, l) in
-    let t = bits_times w c.loop-i.i c.args.word c.ones-low.result c.from.result within f.1 c.ranges.word.fits small (ones_are c.width.result c.ones-low.result w c.width.ensures.width c.ones-low.ensures) in (
+    let t = bits_times w c.loop-i.i c.args.word c.ones-low.result c.from.result within f.1 c.ones-low.ensures.word small (ones_are c.width.result c.ones-low.result w c.width.ensures.width c.ones-low.ensures.ones) in (
       c.times_x-factor.ensures.element,
       λ more. c.times_x-factor.ensures.product ∙ ap (mul F 2) (c.loop-i.invariant.1 i_below) ∙ next_power F x c.loop-i.i c.args.x more,
-      λ k below. sum_step F x w c.loop-i.i c.args.word c.ones-low.result c.args.x c.from.result c.loop-i.sum k within (ones_are c.width.result c.ones-low.result w c.width.ensures.width c.ones-low.ensures k below) below t
+      λ k below. sum_step F x w c.loop-i.i c.args.word c.ones-low.result c.args.x c.from.result c.loop-i.sum k within (ones_are c.width.result c.ones-low.result w c.width.ensures.width c.ones-low.ensures.ones k below) below t
           (c.from.ensures ∙ c.loop-i.invariant.1 i_below) (c.loop-i.invariant.2 k below),
     )
 
