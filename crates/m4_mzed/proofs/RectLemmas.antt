@@ -7,7 +7,7 @@ use Rattle.std.proofs.lemmas.Nat.Bits.{same_from_bits_below}
 use Rattle.std.proofs.lemmas.List.{length-map, get_or-map}
 use Rattle.std.proofs.lemmas.List.Elements.{All-from_get_or, All-get_or}
 use Rattle.m4_model.specs.Field.{Field, IsElement, gf2}
-use Rattle.m4_model.specs.Matrix.{Matrix, IsMatrix, row, at, table}
+use Rattle.m4_model.specs.Matrix.{Matrix, IsMatrix, row, at, table, matrix_of}
 use Rattle.m4_model.specs.Shapes.{cut, replace}
 use Rattle.m4_model.proofs.MatrixLemmas.{at-table, same_table, same_parts}
 use Rattle.m4_model.specs.Field.{IsCarried}
@@ -71,6 +71,12 @@ module _ (F : Field) (x : IsCarried F) (m : ℕ) (Q : Matrix) (g : ℕ → ℕ �
       same_table Q.rows m g (map f Q.entries) (length-map Q.entries f ∙ h)
       (λ i below. ap length (is i below) ∙ length-unpacked (width F) m (row Q i))
       (λ i j below within. ap (λ l. get_or l j 0) (is i below) ∙ entry i j below within)
+
+  pub made_packed : IsPackedIn F m Q
+  made_packed = record { carried = x; wide = wide; count = shape.height; packed = all_packed }
+
+  pub made_is : e_matrix F m Q ≡ matrix_of F Q.rows m g
+  made_is = λ i. record { field = F; rows = Q.rows; cols = m; entries = all_elements i }
 
 -- a rectangle taken out
 module _ (F : Field) (n : ℕ) (P : Matrix) (w : Window) (r0 c0 r1 c1 : ℕ) (is : IsPackedIn F n P) (p_shape : IsMatrix P) (over : P.field ≡ gf2) (shape : IsWindow w)

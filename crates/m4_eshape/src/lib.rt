@@ -1,0 +1,10 @@
+//! Sums and copies over every field: matrices added, turned, put over and beside each other, and cut out at any column.
+#![tactic(auto)]
+
+mod join;
+mod part;
+mod sum;
+
+pub use join::{eaugment, estack};
+pub use part::esub;
+pub use sum::eadd_into;
