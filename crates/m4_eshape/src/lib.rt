@@ -4,7 +4,9 @@
 mod join;
 mod part;
 mod sum;
+mod turn;
 
 pub use join::{eaugment, estack};
 pub use part::esub;
 pub use sum::eadd_into;
+pub use turn::etranspose;

@@ -6,6 +6,8 @@
 
 mod mzed;
 mod row;
+#[cfg(test)]
+mod tests;
 mod win;
 mod win_mut;
 mod word;

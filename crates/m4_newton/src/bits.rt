@@ -8,6 +8,7 @@ use m4_mzd::{AddMul, Shape};
 use m4_mzed::{EWin, EWinMut};
 
 /// An engine for matrices of bits, as one for matrices over GF(2).
+#[derive(Drop)]
 pub struct OverBits<M> {
     pub engine: M,
 }

@@ -5,6 +5,8 @@
 mod add_mul;
 mod bits;
 mod plain;
+#[cfg(test)]
+mod tests;
 
 pub use add_mul::EAddMul;
 pub use bits::OverBits;
