@@ -3,8 +3,10 @@ pub mod AroundLemmas
 pub mod BitRows
 pub mod ContentLemmas
 pub mod CutLemmas
+pub mod EqualLemmas
 pub mod HeldLemmas
 pub mod IdentityLemmas
+pub mod ListedLemmas
 pub mod ManyLemmas
 pub mod PairLemmas
 pub mod PartLemmas

@@ -97,19 +97,20 @@ swap_turned w i j shape within turned =
 abbrev pub copied : Window → List (List ℕ) → ℕ → Window
 copied w rows n = record w { bits = take n rows ++ drop n w.bits }
 
-copy_next : (n : ℕ) (rows old : List (List ℕ)) → n < length rows → n < length old
-    → set (take n rows ++ drop n old) n (get_or rows n []) ≡ take (n + 1) rows ++ drop (n + 1) old
-copy_next n rows old below within =
-    let row = get_or rows n [] in
-    ap (λ l. set (take n rows ++ l) n row) (drop_more old n [] within)
-    ∙ set_at (take n rows) (get_or old n []) (drop (n + 1) old) row n (length-take-le n rows (omega arith))
-    ∙ sym (append_assoc (take n rows) (row ∷ []) (drop (n + 1) old)) ∙ ap (λ l. l ++ drop (n + 1) old) (sym (take_more rows n [] below))
+-- one more element of the new list in place of the old one's
+pub copy_next : {A : Type 0} (d : A) (n : ℕ) (new old : List A) → n < length new → n < length old
+    → set (take n new ++ drop n old) n (get_or new n d) ≡ take (n + 1) new ++ drop (n + 1) old
+copy_next d n new old below within =
+    let x = get_or new n d in
+    ap (λ l. set (take n new ++ l) n x) (drop_more old n d within)
+    ∙ set_at (take n new) (get_or old n d) (drop (n + 1) old) x n (length-take-le n new (omega arith))
+    ∙ sym (append_assoc (take n new) (x ∷ []) (drop (n + 1) old)) ∙ ap (λ l. l ++ drop (n + 1) old) (sym (take_more new n d below))
 
 pub copied_more : (first now next : Window) (rows : List (List ℕ)) (n : ℕ) → n < length rows → n < length first.bits → now ≡ copied first rows n
     → next ≡ record now { bits = set now.bits n (get_or rows n []) } → next ≡ copied first rows (n + 1)
 copied_more first now next rows n below within is written =
     written ∙ ap (λ (w : Window). record w { bits = set w.bits n (get_or rows n []) }) is
-    ∙ ap {B = Window} (λ l. record first { bits = l }) (copy_next n rows first.bits below within)
+    ∙ ap {B = Window} (λ l. record first { bits = l }) (copy_next [] n rows first.bits below within)
 
 pub copied_all : (first : Window) (rows : List (List ℕ)) (n : ℕ) → length rows ≤ n → length first.bits ≤ n → copied first rows n ≡ record first { bits = rows }
 copied_all first rows n all old =

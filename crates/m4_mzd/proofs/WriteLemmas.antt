@@ -20,7 +20,7 @@ use Rattle.m4_mzd.specs.Seen.{shown, shown_rows}
 use Rattle.m4_mzd.specs.Products.{AreProducts}
 use Rattle.m4_mzd.specs.Rows.{sum_from}
 use Rattle.m4_mzd.specs.declared.win.Win.{Win}
-use Rattle.m4_mzd.proofs.BitRows.{get_or-bits_within, within_written, past_kept}
+use Rattle.m4_mzd.proofs.BitRows.{length-bits_within, get_or-bits_within, within_written, past_kept}
 use Rattle.m4_mzd.proofs.WindowLemmas.{same_window, row_of_bits, length-row_of_bits}
 use Rattle.m4_mzd.proofs.SeenLemmas.{words_seen, framed_seen}
 
@@ -59,6 +59,14 @@ pub holds_seen : (x : Win) (cols s : ℕ) (source : List ℕ) (w : Window) (v : 
 holds_seen x cols s source w v is below same was =
     let cols_same : x.cols ≡ cols = same ∙ sym (ap (λ (y : Window). y.cols) is) in
     subst (λ n. Holds n source (row (shown x) s)) cols_same (subst (λ l. Holds x.cols l (row (shown x) s)) (sym was) (holds_shown x s below))
+
+-- words of a row hold their own bits
+pub holds_words : (cols : ℕ) (words : List ℕ) → length words ≡ words_per_row cols → Holds cols words (bits_within cols words)
+holds_words cols words long = record {
+  long = long;
+  entries_long = length-bits_within cols words (omega (arith, long));
+  bits = λ j below. get_or-bits_within cols words j below;
+}
 
 -- the same of equal numbers of columns
 pub holds_at : (m n : ℕ) (words entries : List ℕ) → m ≡ n → Holds m words entries → Holds n words entries

@@ -1,4 +1,5 @@
 pub mod Around
+pub mod Equal
 pub mod Held
 pub mod Home
 pub mod Parts

@@ -21,3 +21,7 @@ rows_at A numbers = map (row A) numbers
 abbrev pub with_word : ℕ → ℕ → List ℕ → List ℕ
 with_word w value entries =
     map (λ j. if j / 64 == w then bit_at value (j % 64) else slice_index entries j) (range_with_len 0 (length entries))
+
+-- The bits of a row of digits: 1 for the digit `1`, and 0 for any other byte.
+abbrev pub bits_of_digits : List ℕ → List ℕ
+bits_of_digits digits = map (λ byte. if byte == 49 then 1 else 0) digits

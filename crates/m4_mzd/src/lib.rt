@@ -4,6 +4,7 @@
 
 mod add_mul;
 mod columns;
+mod made_up;
 mod mzd;
 mod rect;
 mod steps;
@@ -14,6 +15,7 @@ mod win_mut;
 mod word;
 
 pub use add_mul::{AddMul, Shape};
+pub use made_up::mixed;
 pub use mzd::{Around, Home, Mzd};
 pub use rect::{Rect, RectFault};
 pub use steps::Steps;

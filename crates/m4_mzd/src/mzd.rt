@@ -14,7 +14,11 @@ use std::alloc::Global;
 use std::marker::Model;
 
 mod around;
+mod empty;
+mod equal;
+mod listed;
 mod rects;
+mod show;
 mod windows;
 
 pub use around::Around;

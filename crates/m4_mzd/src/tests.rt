@@ -7,7 +7,7 @@ ghost use Rattle.m4_model.specs.Matrix.{zero_matrix};
 ghost use Rattle.m4_model.specs.Shapes.{replace};
 ghost use Rattle.m4_mzd.specs.Rectangles.{IsInside};
 
-use crate::{Mzd, Rect, RectFault, Steps};
+use crate::{Mzd, Rect, RectFault, Steps, mixed};
 use m4_model::NoMemory;
 use std::alloc::Global;
 use std::marker::Brand;
@@ -25,28 +25,18 @@ fn ones_between(m: &Mzd, r: u32, first: u32, end: u32) -> bool
     same
 }
 
-// A matrix of ones.
-fn ones(alloc: Global, rows: u32, cols: u32) -> Result<Mzd, NoMemory>
-    requires few_rows { rows ≤ 65536 }
-    requires few_cols { cols ≤ 65536 }
-    ensures { IfOk result (λ m. (m.rows ≡ rows) × (m.cols ≡ cols)) }
-{
-    let mut m = Mzd::zeros(alloc, rows, cols)?;
-    for r in 0..m.rows() {
-        fill(&mut m, r);
-    }
-    Ok(m)
-}
-
-// Makes every entry of a row 1.
-fn fill(m: &mut Mzd, r: u32)
-    requires { r < m.old.rows }
-    ensures rows { m.new.rows ≡ m.old.rows }
-    ensures cols { m.new.cols ≡ m.old.cols }
-{
-    for c in 0..m.cols() {
-        m.put(r, c, true);
-    }
+#[test]
+fn matrices_are_listed_compared_and_shown(rt: HostRuntime) -> Result<(), Fail> {
+    let alloc = rt.alloc();
+    let listed = Mzd::from_digits(alloc, &[*b"101", *b"011"])?;
+    assert_eq!(rt; listed, Mzd::from_words(alloc, 3, &[[0b101], [0xFFF6]])?);
+    assert!(rt; listed != Mzd::zeros(alloc, 2, 3)?);
+    assert!(rt; Mzd::zeros(alloc, 0, 3)? != Mzd::empty(alloc));
+    assert_eq!(rt; format!(in alloc; "{listed:?}")?.as_str(), "[101, 011]");
+    let made_up = mixed(alloc, 2, 130, 7)?;
+    assert!(rt; made_up == mixed(alloc, 2, 130, 7)?);
+    assert!(rt; made_up != mixed(alloc, 2, 130, 8)?);
+    Ok(())
 }
 
 #[test]
@@ -90,7 +80,7 @@ fn clear_rect(m: &mut Mzd, rect: Rect)
 
 #[test]
 fn a_rectangle_is_cleared_and_nothing_around_it(rt: HostRuntime) -> Result<(), Fail> {
-    let mut m = ones(rt.alloc(), 3, 200)?;
+    let mut m = Mzd::from_words(rt.alloc(), 200, &[[u64::MAX; 4]; 3])?;
     clear_rect(
         &mut m,
         Rect {
@@ -151,8 +141,7 @@ fn move_rows(m: &mut Mzd)
 
 #[test]
 fn rows_are_moved(rt: HostRuntime) -> Result<(), Fail> {
-    let mut m = Mzd::zeros(rt.alloc(), 3, 130)?;
-    fill(&mut m, 0);
+    let mut m = Mzd::from_words(rt.alloc(), 130, &[[u64::MAX; 3], [0; 3], [0; 3]])?;
     move_rows(&mut m);
     assert!(rt; ones_between(&m, 0, 0, 0));
     assert!(rt; ones_between(&m, 1, 100, 130));
@@ -257,7 +246,7 @@ fn rectangles_are_checked(rt: HostRuntime) {
 
 #[test]
 fn a_row_is_added_between_narrow_parts(rt: HostRuntime) -> Result<(), Fail> {
-    let mut m = ones(rt.alloc(), 2, 130)?;
+    let mut m = Mzd::from_words(rt.alloc(), 130, &[[u64::MAX; 3]; 2])?;
     add_first_columns::<Brand>(&mut m, Blank::new(1));
     assert!(rt; ones_between(&m, 0, 65, 130));
     assert!(rt; ones_between(&m, 1, 0, 130));

@@ -9,6 +9,7 @@ use m4_bits::{get_bit, put_bit};
 use std::marker::Model;
 
 mod lent;
+mod listed;
 mod many;
 mod pairs;
 mod parts;
