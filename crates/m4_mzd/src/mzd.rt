@@ -2,13 +2,13 @@
 
 ghost use Rattle.std.specs.Prelude.{◌≡◌, ◌↔◌, ◌^◌, ◌<◌, ◌≤◌, IfOk, IsTrue, if◌then◌else◌};
 ghost use Rattle.m4_model.specs.Field.{gf2};
-ghost use Rattle.m4_model.specs.Matrix.{IsMatrix, at, identity, row, row_sum, with_entry, with_row, zero_matrix};
+ghost use Rattle.m4_model.specs.Matrix.{IsMatrix, at, identity, with_entry, zero_matrix};
 ghost use Rattle.m4_model.specs.Text.{words_per_row};
 ghost use Rattle.m4_mzd.specs.Shown.{window};
 ghost use Rattle.m4_mzd.specs.Held.{held, IsPadded};
 
 use m4_area::OwnedWords;
-use m4_bits::{get_bit, mask, put_bit, words_for, xor_into};
+use m4_bits::{get_bit, put_bit, words_for};
 use m4_model::NoMemory;
 use std::alloc::Global;
 use std::marker::Model;
@@ -139,18 +139,6 @@ impl Mzd {
     {
         put_bit(self.words.row_mut(r as usize), c, bit);
     }
-
-    /// Adds row `s` of `from`, a matrix of as many columns, to row `r`. Every other row stays.
-    pub fn add_row(&mut self, r: u32, from: &Mzd, s: u32)
-        requires in_rows { r < self.old.rows }
-        requires in_from { s < from.now.rows }
-        requires same_cols { self.old.cols ≡ from.now.cols }
-        ensures { self.new ≡ with_row self.old r (row_sum (row self.old r) (row from.now s)) }
-    {
-        let last = mask(self.cols);
-        let source = from.words.words().row(s as usize);
-        xor_into(self.words.row_mut(r as usize), source, last);
-    }
 }
 
 #[cfg(test)]
@@ -178,26 +166,10 @@ mod tests {
     }
 
     #[test]
-    fn a_row_is_added(rt: HostRuntime) -> Result<(), Fail> {
-        let mut m = Mzd::zeros(rt.alloc(), 2, 65)?;
-        let mut from = Mzd::zeros(rt.alloc(), 1, 65)?;
-        from.put(0, 0, true);
-        from.put(0, 64, true);
-        m.put(1, 64, true);
-        m.add_row(1, &from, 0);
-        assert!(rt; m.get(1, 0));
-        assert!(rt; !m.get(1, 64));
-        assert!(rt; !m.get(0, 0));
-        Ok(())
-    }
-
-    #[test]
     fn a_matrix_may_have_no_rows_or_no_columns(rt: HostRuntime) -> Result<(), Fail> {
         let flat = Mzd::zeros(rt.alloc(), 0, 5)?;
         assert_eq!(rt; (flat.rows(), flat.cols()), (0, 5));
-        let mut thin = Mzd::zeros(rt.alloc(), 3, 0)?;
-        let other = Mzd::zeros(rt.alloc(), 1, 0)?;
-        thin.add_row(2, &other, 0);
+        let thin = Mzd::zeros(rt.alloc(), 3, 0)?;
         assert_eq!(rt; (thin.rows(), thin.cols()), (3, 0));
         Ok(())
     }

@@ -5,7 +5,8 @@ ghost use Rattle.std.specs.Prelude.{◌≡◌, ◌+◌, ◌<◌};
 use std::marker::Model;
 use std::sync::ledger::{Blank, Book, Ledger, Share};
 
-/// How many steps were taken. It takes no bytes, `tick` has no code, and only a call that ticks changes the count.
+/// How many steps were taken by the calls that count, `WinMut::add_row` and `WinMut::add_rows`: one for each row that they
+/// added. It takes no bytes and its calls have no code. No other call changes it.
 ///
 /// A caller that wants no count makes one of its own: it writes its body as a function with a parameter `blank: Blank`, generic
 /// over `L: Ledger`, that begins with `Steps::<L>::new(blank)`, and calls it with `Brand` for `L` and `Blank::new(1)`. In
@@ -42,7 +43,7 @@ impl<L: Ledger> Steps<L> {
 
     /// Counts one step.
     #[inline]
-    pub fn tick(&mut self)
+    pub(crate) fn tick(&mut self)
         ensures { self.new ≡ self.old + 1 }
     {
         self.book.add(&mut self.share, 1);
