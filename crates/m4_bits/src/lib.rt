@@ -8,7 +8,7 @@
 ghost use Rattle.std.specs.Prelude.{◌≡◌, ◌≢◌, ◌↔◌, ℕ, ◌-◌, ◌/◌, ◌^◌, ◌<◌, ◌≤◌, length, bit_xor, IsTrue, if◌then◌else◌};
 ghost use Rattle.m4_model.specs.Matrix.{row_sum};
 ghost use Rattle.m4_model.specs.Text.{words_per_row};
-ghost use Rattle.m4_bits.specs.Bits.{bit, last_bits, masked};
+ghost use Rattle.m4_bits.specs.Bits.{bit, last_bits, masked, merged};
 
 mod digits;
 mod products;
@@ -44,6 +44,14 @@ pub fn mask(cols: u32) -> u64
     } else {
         u64::MAX >> (64 - used)
     }
+}
+
+/// The bits of `new` under the mask, and those of `old` elsewhere.
+#[inline]
+pub fn merge(old: u64, new: u64, mask: u64) -> u64
+    ensures { result ≡ merged mask old new }
+{
+    old ^ ((old ^ new) & mask)
 }
 
 /// Whether bit `j` of the row is 1.

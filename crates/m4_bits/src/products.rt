@@ -4,7 +4,7 @@ ghost use Rattle.m4_model.specs.Matrix.{row_sum};
 ghost use Rattle.m4_bits.specs.Bits.{bit, masked};
 ghost use Rattle.m4_bits.specs.Products.{products, row_products};
 
-use crate::rows::merge;
+use super::merge;
 
 /// Adds to the row `dst`, from column `first` on, the products of the words of `src`, a row of as many words: for each `i`
 /// factor `i`, at each place of `low` where the word, shifted down by `i`, has a one.

@@ -4,6 +4,7 @@ ghost use Rattle.std.specs.Prelude.{◌≡◌, ℕ, ◌<◌, ◌≤◌, [], ◌�
 ghost use Rattle.m4_model.specs.Matrix.{row_sum};
 ghost use Rattle.m4_bits.specs.Bits.{bit, masked, merged, overlaid, rows_added};
 
+use super::merge;
 use std::simd::prelude::*;
 
 // Adds rows to `dst`, in one pass, eight words at a time, and the rest one by one. Of the last word of each only the bits of
@@ -181,11 +182,4 @@ pub fn clear(dst: &mut [u64], last: u64)
     let before = dst[end];
     dst.fill(0);
     dst[end] = merge(before, 0, last);
-}
-
-/// The bits of `new` under the mask, and those of `old` elsewhere.
-pub(crate) fn merge(old: u64, new: u64, mask: u64) -> u64
-    ensures { result ≡ merged mask old new }
-{
-    old ^ ((old ^ new) & mask)
 }

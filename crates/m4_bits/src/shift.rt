@@ -5,7 +5,7 @@ ghost use Rattle.std.specs.Int.{bit_at};
 ghost use Rattle.m4_bits.specs.Bits.{bit};
 ghost use Rattle.m4_bits.specs.Shift.{AreCopied};
 
-use super::mask;
+use super::{mask, merge};
 
 /// Copies `count` bits of the row `src`, from bit `from` on, over those of the row `dst` from bit `to` on. All other bits
 /// stay.
@@ -42,9 +42,8 @@ fn copy_to_word(dst: &mut [u64], to: u32, src: &[u64], from: u32, count: u32)
     }
     let place = (to / 64) as usize;
     let shift = to % 64;
-    let old = dst[place];
     let new = word_from(src, from) << shift;
-    dst[place] = old ^ ((old ^ new) & mask(count) << shift);
+    dst[place] = merge(dst[place], new, mask(count) << shift);
 }
 
 /// Copies bits to `count` whole words from word `first` on.

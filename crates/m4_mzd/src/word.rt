@@ -6,7 +6,7 @@ ghost use Rattle.m4_model.specs.Text.{words_per_row};
 ghost use Rattle.m4_bits.specs.Bits.{bit};
 ghost use Rattle.m4_mzd.specs.Shown.{bits_within};
 
-use m4_bits::{mask, words_for};
+use m4_bits::{mask, merge, words_for};
 
 /// The bits of word `w` of a row that stand for its columns.
 #[inline]
@@ -41,6 +41,5 @@ pub(crate) fn put_word(row: &mut [u64], cols: u32, w: u32, value: u64)
     ensures kept { (j : ℕ) → cols ≤ j → bit row.new j ≡ bit row.old j }
 {
     let bits = word_mask(cols, w);
-    let old = row[w as usize];
-    row[w as usize] = old ^ ((old ^ value) & bits);
+    row[w as usize] = merge(row[w as usize], value, bits);
 }
