@@ -5,7 +5,7 @@ ghost use Rattle.m4_mzd.specs.Reach.{IsReached};
 
 use crate::{Plain, Table};
 use m4_model::NoMemory;
-use m4_mzd::{AddMul, Mzd, Steps};
+use m4_mzd::{AddMul, Mzd, Steps, mixed};
 use std::alloc::Global;
 use std::marker::Brand;
 use std::sync::ledger::{Blank, Ledger};
@@ -49,35 +49,6 @@ fn the_factors_are_parts_of_the_same_matrix(rt: HostRuntime) -> Result<(), Fail>
     Ok(())
 }
 
-// A square matrix of entries without an order.
-fn mixed(alloc: Global, n: u32, seed: u64) -> Result<Mzd, NoMemory>
-    requires { n ≤ 1000 }
-    ensures { IfOk result (λ m. (m.rows ≡ n) × (m.cols ≡ n)) }
-{
-    let mut m = Mzd::zeros(alloc, n, n)?;
-    let mut word = seed;
-    for r in 0..m.rows() {
-        word = mix_row(&mut m, r, word);
-    }
-    Ok(m)
-}
-
-// Writes such entries into a row.
-fn mix_row(m: &mut Mzd, r: u32, seed: u64) -> u64
-    requires { r < m.old.rows }
-    ensures rows { m.new.rows ≡ m.old.rows }
-    ensures cols { m.new.cols ≡ m.old.cols }
-{
-    let mut word = seed;
-    for c in 0..m.cols() {
-        word ^= word << 13;
-        word ^= word >> 7;
-        word ^= word << 17;
-        m.put(r, c, word >> 33 & 1 == 1);
-    }
-    word
-}
-
 // The product of two square matrices by an engine.
 fn times<E: AddMul>(alloc: Global, engine: &mut E, a: &Mzd, b: &Mzd) -> Result<Mzd, NoMemory>
     requires square { (a.now.rows ≡ a.now.cols) × (b.now.cols ≡ a.now.cols) }
@@ -92,54 +63,6 @@ fn times<E: AddMul>(alloc: Global, engine: &mut E, a: &Mzd, b: &Mzd) -> Result<M
     Ok(c)
 }
 
-// Whether two matrices of one shape are the same.
-fn are_same(a: &Mzd, b: &Mzd) -> bool
-    requires rows { a.now.rows ≡ b.now.rows }
-    requires cols { a.now.cols ≡ b.now.cols }
-{
-    let mut same = true;
-    for r in 0..a.rows() {
-        same = same && are_same_in_row(a, b, r);
-    }
-    same
-}
-
-fn are_same_in_row(a: &Mzd, b: &Mzd, r: u32) -> bool
-    requires rows { a.now.rows ≡ b.now.rows }
-    requires cols { a.now.cols ≡ b.now.cols }
-    requires in_rows { r < a.now.rows }
-{
-    let mut same = true;
-    for c in 0..a.cols() {
-        same = same && a.get(r, c) == b.get(r, c);
-    }
-    same
-}
-
-// A matrix of ones.
-fn ones(alloc: Global, rows: u32, cols: u32) -> Result<Mzd, NoMemory>
-    requires few_rows { rows ≤ 1000 }
-    requires few_cols { cols ≤ 1000 }
-    ensures { IfOk result (λ m. (m.rows ≡ rows) × (m.cols ≡ cols)) }
-{
-    let mut m = Mzd::zeros(alloc, rows, cols)?;
-    for r in 0..m.rows() {
-        fill(&mut m, r);
-    }
-    Ok(m)
-}
-
-// Makes every entry of a row 1.
-fn fill(m: &mut Mzd, r: u32)
-    requires { r < m.old.rows }
-    ensures rows { m.new.rows ≡ m.old.rows }
-    ensures cols { m.new.cols ≡ m.old.cols }
-{
-    for c in 0..m.cols() {
-        m.put(r, c, true);
-    }
-}
-
 // Multiplies matrices of ones by tables of four entries: 16 rows are added, however many tables there are.
 fn multiply_ones<L: Ledger>(
     alloc: Global,
@@ -150,8 +73,8 @@ fn multiply_ones<L: Ledger>(
     requires few { tables ≤ 8 }
     ensures { IfOk result (λ _. steps.new ≡ steps.old + 16) }
 {
-    let a = ones(alloc, 3, 5)?;
-    let b = ones(alloc, 5, 2)?;
+    let a = Mzd::from_digits(alloc, &[*b"11111"; 3])?;
+    let b = Mzd::from_digits(alloc, &[*b"11"; 5])?;
     let mut c = Mzd::zeros(alloc, 3, 2)?;
     let mut table = Table::new(alloc, 2, 2, tables)?;
     let (mut all, home) = c.all_mut();
@@ -189,12 +112,12 @@ fn engines_agree(alloc: Global, n: u32, k: u32, tables: u32) -> Result<bool, NoM
     requires some_tables { 1 ≤ tables }
     requires few_tables { tables ≤ 8 }
 {
-    let a = mixed(alloc, n, 0x9E37_79B9_7F4A_7C15)?;
-    let b = mixed(alloc, n, 0xD1B5_4A32_D192_ED03)?;
+    let a = mixed(alloc, n, n, 0x9E37_79B9_7F4A_7C15)?;
+    let b = mixed(alloc, n, n, 0xD1B5_4A32_D192_ED03)?;
     let mut table = Table::new(alloc, n, k, tables)?;
     let by_table = times(alloc, &mut table, &a, &b)?;
     let by_rows = times(alloc, &mut Plain, &a, &b)?;
-    Ok(are_same(&by_table, &by_rows))
+    Ok(by_table == by_rows)
 }
 
 #[test]

@@ -12,21 +12,12 @@ use std::test::Fail;
 fn sample(alloc: Global) -> Result<Mzd, NoMemory>
     ensures { IfOk result (λ m. (m.rows ≡ 3) × (m.cols ≡ 2)) }
 {
-    let mut m = Mzd::zeros(alloc, 3, 2)?;
-    m.put(0, 0, true);
-    m.put(1, 1, true);
-    m.put(2, 0, true);
-    m.put(2, 1, true);
-    Ok(m)
+    Mzd::from_digits(alloc, &[*b"10", *b"01", *b"11"])
 }
 
-// The rows of a matrix as numbers, whose lowest bit is the first column.
-fn numbers(m: &Mzd) -> [u64; 3]
-    requires rows { m.now.rows ≡ 3 }
-    requires cols { m.now.cols ≡ 2 }
-{
-    let all = m.all();
-    [all.word(0, 0), all.word(1, 0), all.word(2, 0)]
+// Its rows in the order 2, 0, 1.
+fn moved_sample(alloc: Global) -> Result<Mzd, NoMemory> {
+    Mzd::from_digits(alloc, &[*b"11", *b"10", *b"01"])
 }
 
 #[test]
@@ -34,9 +25,9 @@ fn rows_and_columns_in_an_order(rt: HostRuntime) -> Result<(), Fail> {
     let alloc = rt.alloc();
     let order = Perm::from_swaps(alloc, 3, &[2, 2, 2])?;
     let moved = order.permute_rows(alloc, &sample(alloc)?.all())?;
-    assert_eq!(rt; numbers(&moved), [3, 1, 2]);
+    assert_eq!(rt; moved, moved_sample(alloc)?);
     let same = Perm::identity(alloc, 2)?.permute_cols(alloc, &sample(alloc)?.all())?;
-    assert_eq!(rt; numbers(&same), [1, 2, 3]);
+    assert_eq!(rt; same, sample(alloc)?);
     Ok(())
 }
 
@@ -66,9 +57,9 @@ fn exchange_back(m: &mut Mzd)
 fn rows_are_exchanged_and_back(rt: HostRuntime) -> Result<(), Fail> {
     let mut m = sample(rt.alloc())?;
     exchange(&mut m);
-    assert_eq!(rt; numbers(&m), [3, 1, 2]);
+    assert_eq!(rt; m, moved_sample(rt.alloc())?);
     exchange_back(&mut m);
-    assert_eq!(rt; numbers(&m), [1, 2, 3]);
+    assert_eq!(rt; m, sample(rt.alloc())?);
     Ok(())
 }
 

@@ -6,7 +6,7 @@ use super::*;
 use crate::side::Side;
 use m4_model::NoMemory;
 use m4_mul::Plain;
-use m4_mzd::{AddMul, Mzd, Shape, Win, WinMut};
+use m4_mzd::{AddMul, Mzd, Shape, Win, WinMut, mixed};
 use std::alloc::Global;
 use std::process::Abort;
 use std::test::Fail;
@@ -105,24 +105,6 @@ fn matrix_of(alloc: Global, rows: u32, cols: u32, digits: &[u8]) -> Result<Mzd, 
     Ok(m)
 }
 
-/// A matrix of random entries.
-fn random(alloc: Global, rows: u32, cols: u32, seed: u64) -> Result<Mzd, NoMemory>
-    requires few_rows { rows ≤ 1000 }
-    requires few_cols { cols ≤ 1000 }
-{
-    let mut state = seed;
-    let mut m = Mzd::zeros(alloc, rows, cols)?;
-    for r in 0..m.rows() {
-        for c in 0..m.cols() {
-            state ^= state << 13;
-            state ^= state >> 7;
-            state ^= state << 17;
-            set(&mut m, r, c, state & 1 == 1);
-        }
-    }
-    Ok(m)
-}
-
 /// The triangle with ones on its diagonal.
 fn triangle_of(alloc: Global, side: Side, t: &Mzd) -> Result<Mzd, NoMemory> {
     let mut m = Mzd::identity(alloc, t.rows())?;
@@ -172,13 +154,13 @@ fn gives_back(
     requires few_others { other ≤ 1000 }
 {
     let seed = u64::from(side * 1000 + other + 1);
-    let t = random(alloc, side, side, seed)?;
+    let t = mixed(alloc, side, side, seed)?;
     let (rows, cols) = if place.on_left {
         (side, other)
     } else {
         (other, side)
     };
-    let mut b = random(alloc, rows, cols, seed + 7)?;
+    let mut b = mixed(alloc, rows, cols, seed + 7)?;
     let mut x = b.copy(alloc)?;
     calls_of(rt, place, &t, &mut x, cutoff);
     add_back(rt, place, &triangle_of(alloc, place.side, &t)?, &x, &mut b);
@@ -226,11 +208,11 @@ fn random_solves_are_multiplied_back(rt: HostRuntime) -> Result<(), Fail> {
 #[test]
 fn the_engine_is_called_past_the_cutoff_alone(rt: HostRuntime) -> Result<(), Fail> {
     for place in [LOWER_LEFT, UPPER_LEFT, LOWER_RIGHT, UPPER_RIGHT] {
-        let small = random(rt.alloc(), 64, 64, 1)?;
-        let mut b = random(rt.alloc(), 64, 64, 2)?;
+        let small = mixed(rt.alloc(), 64, 64, 1)?;
+        let mut b = mixed(rt.alloc(), 64, 64, 2)?;
         assert_eq!(rt; calls_of(&rt, place, &small, &mut b, 64), 0);
-        let large = random(rt.alloc(), 130, 130, 1)?;
-        let mut b = random(rt.alloc(), 130, 130, 2)?;
+        let large = mixed(rt.alloc(), 130, 130, 1)?;
+        let mut b = mixed(rt.alloc(), 130, 130, 2)?;
         assert!(rt; calls_of(&rt, place, &large, &mut b, 64) > 0);
     }
     Ok(())
