@@ -1,11 +1,12 @@
 -- Matrices with one row or one entry written, and sums of rows.
-use Rattle.std.proofs.Common.{◌≡◌, ◌≢◌, ℕ, ◌<◌, inl, inr, List, [], length, get_or, set, refl, sym, ◌∙◌}
-use Rattle.std.proofs.lemmas.List.{length-set, get_or-set_same, get_or-set_other}
+use Rattle.std.proofs.Common.{◌≡◌, ◌≢◌, ℕ, ◌+◌, ◌-◌, ◌<◌, ◌≤◌, inl, inr, List, [], length, get_or, set, take, drop, bit_xor, length-append, length-take, length-drop, get_or-take, get_or-drop, refl, sym, ◌∙◌, ap, ap₂, arith}
+use Rattle.std.proofs.lemmas.List.{length-set, get_or-set_same, get_or-set_other, get_or_append_left, get_or-append_right}
 use Rattle.std.proofs.lemmas.Bool.{cases_eq}
 use Rattle.m4_model.specs.Field.{Field}
-use Rattle.m4_model.specs.Matrix.{table, matrix_of, with_row, with_entry}
+use Rattle.m4_model.specs.Matrix.{table, matrix_of, row_sum, with_row, with_entry}
 use Rattle.m4_model.proofs.MatrixLemmas.{length-table, length-row-table, at-table, same_matrix}
 pub use Rattle.m4_bits.proofs.BitsLemmas.{length-row_sum, get_or-row_sum}
+use Rattle.m4_mzd.specs.Rows.{sum_from}
 
 -- a matrix with one row written is the matrix of the new entries
 pub with_row-matrix_of : (F : Field) (m n : ℕ) (g h : ℕ → ℕ → ℕ) (r : ℕ) (entries : List ℕ) → r < m → length entries ≡ n
@@ -42,3 +43,28 @@ with_entry-matrix_of F m n g h r c v in_rows in_cols changed kept =
           ∙ (at-table m n g r j in_rows within ∙ sym (kept r j in_rows within (λ _ is. away is)))
     ])
     (λ i j below within away. kept i j below within (λ is _. away is))
+
+-- a sum from a column on is as long as its first row
+pub length-sum_from : (c : ℕ) (xs ys : List ℕ) → length (sum_from c xs ys) ≡ length xs
+length-sum_from c xs ys =
+    let first = length-take c xs in
+    let rest = length-drop c xs in
+    length-append (take c xs) (row_sum (drop c xs) (drop c ys)) ∙ (let tail = length-row_sum (drop c xs) (drop c ys) in omega (arith, first, rest, tail))
+
+-- before the column nothing changes
+pub sum_from-before : (c j : ℕ) (xs ys : List ℕ) → c ≤ length xs → j < c → get_or (sum_from c xs ys) j 0 ≡ get_or xs j 0
+sum_from-before c j xs ys within before =
+    let first = length-take c xs in
+    get_or_append_left (take c xs) (row_sum (drop c xs) (drop c ys)) 0 j (omega (arith, first, within, before)) ∙ get_or-take c xs j 0 before
+
+-- from it on the entries are added
+pub sum_from-after : (c j : ℕ) (xs ys : List ℕ) → length ys ≡ length xs → c ≤ length xs → c ≤ j
+    → get_or (sum_from c xs ys) j 0 ≡ bit_xor (get_or xs j 0) (get_or ys j 0)
+sum_from-after c j xs ys same within past =
+    let first = length-take c xs in
+    let rest = length-drop c xs in
+    let other = length-drop c ys in
+    let place : c + (j - c) ≡ j = omega (arith, past) in
+    get_or-append_right (take c xs) (row_sum (drop c xs) (drop c ys)) c j 0 (omega (arith, first, within)) past
+    ∙ get_or-row_sum (drop c xs) (drop c ys) (j - c) (omega (arith, rest, other, same))
+    ∙ ap₂ bit_xor (get_or-drop c xs (j - c) 0 ∙ ap (λ (j : ℕ). get_or xs j 0) place) (get_or-drop c ys (j - c) 0 ∙ ap (λ (j : ℕ). get_or ys j 0) place)

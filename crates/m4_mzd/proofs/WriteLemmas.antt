@@ -21,6 +21,7 @@ use Rattle.m4_mzd.specs.Products.{AreProducts}
 use Rattle.m4_mzd.specs.Rows.{sum_from}
 use Rattle.m4_mzd.specs.declared.win.Win.{Win}
 use Rattle.m4_mzd.proofs.BitRows.{length-bits_within, get_or-bits_within, within_written, past_kept}
+use Rattle.m4_mzd.proofs.RowLemmas.{length-sum_from, sum_from-before, sum_from-after}
 use Rattle.m4_mzd.proofs.WindowLemmas.{same_window, row_of_bits, length-row_of_bits}
 use Rattle.m4_mzd.proofs.SeenLemmas.{words_seen, framed_seen}
 
@@ -134,23 +135,6 @@ wrote_sum cols last old src new xs ys mask sum h g =
     }
 
 -- a row that was added from a column on
-pub get_or-sum_from : (c j : ℕ) (xs ys : List ℕ) → length xs ≡ length ys → c ≤ length xs → c ≤ j → get_or (sum_from c xs ys) j 0 ≡ bit_xor (get_or xs j 0) (get_or ys j 0)
-get_or-sum_from c j xs ys same within past =
-    let place : c + (j - c) ≡ j = omega arith in
-    let tails : length (drop c xs) ≡ length (drop c ys) = omega (arith, length-drop c xs, length-drop c ys) in
-    get_or-append_right (take c xs) (row_sum (drop c xs) (drop c ys)) c j 0 (length-take-le c xs within) past
-    ∙ (get_or-row_sum (drop c xs) (drop c ys) (j - c) tails
-    ∙ ((λ i. bit_xor (get_or-drop c xs (j - c) 0 i) (get_or-drop c ys (j - c) 0 i))
-    ∙ ap (λ k. bit_xor (get_or xs k 0) (get_or ys k 0)) place))
-
-pub get_or-sum_before : (c j : ℕ) (xs ys : List ℕ) → c ≤ length xs → j < c → get_or (sum_from c xs ys) j 0 ≡ get_or xs j 0
-get_or-sum_before c j xs ys within before =
-    get_or_append_left (take c xs) (row_sum (drop c xs) (drop c ys)) 0 j (omega (arith, length-take-le c xs within)) ∙ get_or-take c xs j 0 before
-
-pub length-sum_from : (c : ℕ) (xs ys : List ℕ) → c ≤ length xs → length (sum_from c xs ys) ≡ length xs
-length-sum_from c xs ys within =
-    omega (arith, length-append (take c xs) (row_sum (drop c xs) (drop c ys)), length-take-le c xs within, length-row_sum (drop c xs) (drop c ys), length-drop c xs)
-
 pub wrote_tail : (cols last c : ℕ) (old src new xs ys : List ℕ) → last ≡ 2 ^ last_bits cols - 1 → length new ≡ length old → c ≤ cols
     → ((k : ℕ) → c ≤ k → bit new k ≡ bit (row_sum old (masked src last)) k) → ((k : ℕ) → k < c → bit new k ≡ bit old k)
     → Holds cols old xs → Holds cols src ys → Wrote cols old new (sum_from c xs ys)
@@ -163,11 +147,11 @@ wrote_tail cols last c old src new xs ys mask long within added stays h g =
     record {
       holds = record {
         long = long ∙ h.long;
-        entries_long = length-sum_from c xs ys room ∙ h.entries_long;
+        entries_long = length-sum_from c xs ys ∙ h.entries_long;
         bits = λ j inside. elim (cases_lt j c) [
-          | inl before ↦ get_or-sum_before c j xs ys room before ∙ (h.bits j inside ∙ sym (stays j before))
+          | inl before ↦ sum_from-before c j xs ys room before ∙ (h.bits j inside ∙ sym (stays j before))
           | inr from ↦
-              get_or-sum_from c j xs ys entries room from
+              sum_from-after c j xs ys (sym entries) room from
               ∙ (λ i. bit_xor (h.bits j inside i) (g.bits j inside i))
               ∙ sym (sums j from ∙ bit-sum_masked_below old src cols j same g.long inside)
         ];

@@ -18,7 +18,7 @@ use Rattle.m4_field.proofs.WidthLemmas.{width_facts}
 use Rattle.m4_mzd.specs.Rows.{sum_from}
 use Rattle.m4_mzd.specs.Window.{Window, IsWindow}
 use Rattle.m4_mzd.specs.Window.{content as bit_content, showing as bit_showing}
-use Rattle.m4_mzd.proofs.WriteLemmas.{get_or-sum_from, get_or-sum_before, length-sum_from}
+use Rattle.m4_mzd.proofs.RowLemmas.{length-sum_from, sum_from-before, sum_from-after}
 use Rattle.m4_mzed.specs.EWindow.{EWindow, content, showing}
 use Rattle.m4_mzed.specs.Packed.{unpacked, elements, IsPackedRow, IsPacked}
 use Rattle.m4_mzed.specs.PackedIn.{IsPackedIn}
@@ -102,17 +102,17 @@ module _ (F : Field) (carried : IsCarried F) (n a : ℕ) (small : a < 2 ^ F.degr
     old_room = let l = old_long in omega (arith, l, in_cols)
 
     sum_long : length (sum_from (c * width F) xs (packed_multiples F n a zs)) ≡ n * width F
-    sum_long = length-sum_from (c * width F) xs (packed_multiples F n a zs) bit_room ∙ px.long
+    sum_long = length-sum_from (c * width F) xs (packed_multiples F n a zs) ∙ px.long
 
     sum_bits : AreBits (sum_from (c * width F) xs (packed_multiples F n a zs))
     sum_bits = All-from_get_or (λ b. b < 2) _ 0 (λ p inside.
         let P : ℕ → Type 0 = λ b. b < 2 in
-        let within : p < length xs = let l = length-sum_from (c * width F) xs (packed_multiples F n a zs) bit_room in omega (arith, l, inside) in
+        let within : p < length xs = let l = length-sum_from (c * width F) xs (packed_multiples F n a zs) in omega (arith, l, inside) in
         let mine = All-get_or (λ b. b < 2) xs p 0 within bx in
         elim (cases_lt p (c * width F)) [
-          | inl before ↦ subst P (sym (get_or-sum_before (c * width F) p xs (packed_multiples F n a zs) bit_room before)) mine
+          | inl before ↦ subst P (sym (sum_from-before (c * width F) p xs (packed_multiples F n a zs) bit_room before)) mine
           | inr from ↦
-              subst P (sym (get_or-sum_from (c * width F) p xs (packed_multiples F n a zs) same_long bit_room from))
+              subst P (sym (sum_from-after (c * width F) p xs (packed_multiples F n a zs) (sym same_long) bit_room from))
               (xor_lt 1 _ _ mine (All-get_or (λ b. b < 2) (packed_multiples F n a zs) p 0 (let s = same_long in omega (arith, s, within)) product_bits))
         ])
 
@@ -124,14 +124,14 @@ module _ (F : Field) (carried : IsCarried F) (n a : ℕ) (small : a < 2 ^ F.degr
         let more = multiples F a (unpacked w n zs) in
         elim (cases_lt j c) [
           | inl before ↦
-              get_or-sum_before (c * w) (j * w + v) xs (packed_multiples F n a zs) bit_room (let m = next_le j c w before in omega (arith, m, v_below))
+              sum_from-before (c * w) (j * w + v) xs (packed_multiples F n a zs) bit_room (let m = next_le j c w before in omega (arith, m, v_below))
               ∙ sym (element_bit w n xs px.long bx j v below v_below)
-              ∙ ap (λ e. bit_at e v) (sym (get_or-sum_before c j old more old_room before))
+              ∙ ap (λ e. bit_at e v) (sym (sum_from-before c j old more old_room before))
           | inr from ↦
-              get_or-sum_from (c * w) (j * w + v) xs (packed_multiples F n a zs) same_long bit_room (let m = times_le c j w from in omega (arith, m))
+              sum_from-after (c * w) (j * w + v) xs (packed_multiples F n a zs) (sym same_long) bit_room (let m = times_le c j w from in omega (arith, m))
               ∙ ap₂ bit_xor (sym (element_bit w n xs px.long bx j v below v_below)) (product_bit j v below v_below)
               ∙ sym (bit_at-xor (get_or old j 0) (get_or more j 0) v)
-              ∙ ap (λ e. bit_at e v) (sym (get_or-sum_from c j old more old_same old_room from))
+              ∙ ap (λ e. bit_at e v) (sym (sum_from-after c j old more (sym old_same) old_room from))
         ]
 
     sum_element : (j : ℕ) → j < n → IsElement F (get_or (sum_from c (unpacked (width F) n xs) (multiples F a (unpacked (width F) n zs))) j 0)
@@ -141,13 +141,13 @@ module _ (F : Field) (carried : IsCarried F) (n a : ℕ) (small : a < 2 ^ F.degr
         let more = multiples F a (unpacked (width F) n zs) in
         let mine = element_at F old j px.elements in
         elim (cases_lt j c) [
-          | inl before ↦ subst P (sym (get_or-sum_before c j old more old_room before)) mine
-          | inr from ↦ subst P (sym (get_or-sum_from c j old more old_same old_room from)) (xor_lt F.degree _ _ mine (product_element j below))
+          | inl before ↦ subst P (sym (sum_from-before c j old more old_room before)) mine
+          | inr from ↦ subst P (sym (sum_from-after c j old more (sym old_same) old_room from)) (xor_lt F.degree _ _ mine (product_element j below))
         ]
 
     pub sum_is : unpacked (width F) n (sum_from (c * width F) xs (packed_multiples F n a zs)) ≡ sum_from c (unpacked (width F) n xs) (multiples F a (unpacked (width F) n zs))
     sum_is =
-        unpacked_is (width F) n _ sum_long sum_bits _ (length-sum_from c (unpacked (width F) n xs) (multiples F a (unpacked (width F) n zs)) old_room ∙ old_long)
+        unpacked_is (width F) n _ sum_long sum_bits _ (length-sum_from c (unpacked (width F) n xs) (multiples F a (unpacked (width F) n zs)) ∙ old_long)
         (λ j below. let s = sum_element j below in let m = pow_mono {i = F.degree} {j = width F} (width_facts F carried).room in omega (arith, s, m))
         sum_bit
 
@@ -156,7 +156,7 @@ module _ (F : Field) (carried : IsCarried F) (n a : ℕ) (small : a < 2 ^ F.degr
       long = sum_long;
       elements = let P : List ℕ → Type 0 = All (IsElement F) in
           subst P (sym sum_is) (All-from_get_or (IsElement F) _ 0 (λ j within. sum_element j
-          (let l = length-sum_from c (unpacked (width F) n xs) (multiples F a (unpacked (width F) n zs)) old_room in let m = old_long in omega (arith, l, m, within))));
+          (let l = length-sum_from c (unpacked (width F) n xs) (multiples F a (unpacked (width F) n zs)) in let m = old_long in omega (arith, l, m, within))));
     }
 
 -- a window to a row of which a multiple was added
@@ -198,12 +198,12 @@ nothing_added F carried n c r zs w shape below within long =
     let xs_long = shape.matrix.width r below in
     let room : c ≤ length xs = omega (arith, xs_long, within) in
     let same : length xs ≡ length ys = xs_long ∙ sym long ∙ sym (length-multiples F carried n 0 zs) in
-    let is : sum_from c xs ys ≡ xs = ext_get_or 0 _ _ (length-sum_from c xs ys room) (λ j inside.
+    let is : sum_from c xs ys ≡ xs = ext_get_or 0 _ _ (length-sum_from c xs ys) (λ j inside.
     elim (cases_lt j c) [
-      | inl before ↦ get_or-sum_before c j xs ys room before
+      | inl before ↦ sum_from-before c j xs ys room before
       | inr from ↦
-          get_or-sum_from c j xs ys same room from
-          ∙ ap (bit_xor (get_or xs j 0)) (get_or-multiples F carried n 0 zs j (let l = length-sum_from c xs ys room in omega (arith, l, inside, xs_long, long))
+          sum_from-after c j xs ys (sym same) room from
+          ∙ ap (bit_xor (get_or xs j 0)) (get_or-multiples F carried n 0 zs j (let l = length-sum_from c xs ys in omega (arith, l, inside, xs_long, long))
           ∙ ap (λ y. bit_at y (j % width F)) ((carried_laws F carried).annihilates _) ∙ zero_bit (j % width F))
           ∙ xor_zero_r (get_or xs j 0)
     ]) in

@@ -7,32 +7,8 @@ use Rattle.m4_model.specs.Matrix.{Matrix, IsMatrix, row, at, row_sum, with_row, 
 use Rattle.m4_model.proofs.MatrixLemmas.{at-table, same_matrix}
 use Rattle.m4_mzd.specs.Rows.{sum_from}
 use Rattle.m4_mzd.proofs.RowLemmas.{with_row-matrix_of, length-row_sum, get_or-row_sum}
+pub use Rattle.m4_mzd.proofs.RowLemmas.{length-sum_from, sum_from-before, sum_from-after}
 use Rattle.m4_ple.specs.Elimination.{cleared_entry, cleared_row, cleared}
-
--- a sum from a column on is as long as its first row
-pub length-sum_from : (c : ℕ) (xs ys : List ℕ) → length (sum_from c xs ys) ≡ length xs
-length-sum_from c xs ys =
-    let first = length-take c xs in
-    let rest = length-drop c xs in
-    length-append (take c xs) (row_sum (drop c xs) (drop c ys)) ∙ (let tail = length-row_sum (drop c xs) (drop c ys) in omega (arith, first, rest, tail))
-
--- before the column nothing changes
-pub sum_from-before : (c j : ℕ) (xs ys : List ℕ) → c ≤ length xs → j < c → get_or (sum_from c xs ys) j 0 ≡ get_or xs j 0
-sum_from-before c j xs ys within before =
-    let first = length-take c xs in
-    get_or_append_left (take c xs) (row_sum (drop c xs) (drop c ys)) 0 j (omega (arith, first, within, before)) ∙ get_or-take c xs j 0 before
-
--- from it on the entries are added
-pub sum_from-after : (c j : ℕ) (xs ys : List ℕ) → length ys ≡ length xs → c ≤ length xs → c ≤ j
-    → get_or (sum_from c xs ys) j 0 ≡ bit_xor (get_or xs j 0) (get_or ys j 0)
-sum_from-after c j xs ys same within past =
-    let first = length-take c xs in
-    let rest = length-drop c xs in
-    let other = length-drop c ys in
-    let place : c + (j - c) ≡ j = omega (arith, past) in
-    get_or-append_right (take c xs) (row_sum (drop c xs) (drop c ys)) c j 0 (omega (arith, first, within)) past
-    ∙ get_or-row_sum (drop c xs) (drop c ys) (j - c) (omega (arith, rest, other, same))
-    ∙ ap₂ bit_xor (get_or-drop c xs (j - c) 0 ∙ ap (λ (j : ℕ). get_or xs j 0) place) (get_or-drop c ys (j - c) 0 ∙ ap (λ (j : ℕ). get_or ys j 0) place)
 
 module _ (r c : ℕ) (W : Matrix) (i : ℕ) where
   pub length-cleared_row : length (cleared_row r c W i) ≡ W.cols
