@@ -1,10 +1,11 @@
 -- How a window stands in a rectangle of words: each row in as many words as its columns take.
-use Rattle.std.specs.Prelude.{◌≡◌, ℕ, ◌^◌, ◌≤◌, List, [], ◌∷◌, ◌++◌, map, take, drop}
+use Rattle.std.specs.Prelude.{◌≡◌, ℕ, ◌≤◌, List, [], ◌∷◌, ◌++◌, map, take, drop}
 use Rattle.std.specs.List.{range_with_len}
 use Rattle.std.specs.Int.{bit_at}
 use Rattle.m4_model.specs.Text.{words_per_row}
 use Rattle.m4_area.specs.Rectangle.{Rectangle, HasShape}
 use Rattle.m4_mzd.specs.Window.{Window}
+use Rattle.m4_mzd.specs.declared.TheConstants.{MOST_SIDE}
 
 -- The lowest n bits of a word, from the least significant on.
 unfoldable pub digits : ℕ → ℕ → List ℕ
@@ -37,5 +38,5 @@ window v cols = record {
 pub record IsFramed (v : Rectangle) (cols : ℕ) : Type 0 where
   pub shape : HasShape v
   pub wide : v.width ≡ words_per_row cols
-  pub few_rows : v.rows ≤ 2 ^ 24
-  pub few_cols : cols ≤ 2 ^ 24
+  pub few_rows : v.rows ≤ MOST_SIDE
+  pub few_cols : cols ≤ MOST_SIDE

@@ -2,6 +2,9 @@
 //! see a `Matrix`.
 #![tactic(auto)]
 
+/// The most rows, and the most columns, of a matrix in memory.
+pub const MOST_SIDE: u32 = 1 << 24;
+
 mod add_mul;
 mod columns;
 mod made_up;

@@ -2,6 +2,7 @@
 
 ghost use Rattle.std.specs.Prelude.{◌≡◌, ◌^◌, ◌<◌, ◌≤◌, IfOk};
 
+use crate::MOST_SIDE;
 use crate::mzd::Mzd;
 use crate::win_mut::WinMut;
 use m4_bits::words_for;
@@ -11,8 +12,8 @@ use std::alloc::Global;
 /// A matrix of made-up digits, for tests: for one seed, not 0, and one shape always the same ones. They are numbers of
 /// Marsaglia, Xorshift RNGs (2003), and mean nothing.
 pub fn mixed(alloc: Global, rows: u32, cols: u32, seed: u64) -> Result<Mzd, NoMemory>
-    requires few_rows { rows ≤ 2 ^ 24 }
-    requires few_cols { cols ≤ 2 ^ 24 }
+    requires few_rows { rows ≤ MOST_SIDE }
+    requires few_cols { cols ≤ MOST_SIDE }
     ensures rows { IfOk result (λ m. m.rows ≡ rows) }
     ensures cols { IfOk result (λ m. m.cols ≡ cols) }
 {

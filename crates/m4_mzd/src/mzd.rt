@@ -7,6 +7,7 @@ ghost use Rattle.m4_model.specs.Text.{words_per_row};
 ghost use Rattle.m4_mzd.specs.Shown.{window};
 ghost use Rattle.m4_mzd.specs.Held.{held, IsPadded};
 
+use crate::MOST_SIDE;
 use m4_area::OwnedWords;
 use m4_bits::{get_bit, put_bit, words_for};
 use m4_model::NoMemory;
@@ -47,8 +48,8 @@ impl Model for Mzd {
 impl Mzd {
     /// The matrix of zeros of so many rows and columns.
     pub fn zeros(alloc: Global, rows: u32, cols: u32) -> Result<Mzd, NoMemory>
-        requires few_rows { rows ≤ 2 ^ 24 }
-        requires few_cols { cols ≤ 2 ^ 24 }
+        requires few_rows { rows ≤ MOST_SIDE }
+        requires few_cols { cols ≤ MOST_SIDE }
         ensures { IfOk result (λ m. m ≡ zero_matrix gf2 rows cols) }
     {
         let width = words_for(cols) as usize;
@@ -58,7 +59,7 @@ impl Mzd {
 
     /// The matrix with ones on its diagonal and zeros elsewhere.
     pub fn identity(alloc: Global, n: u32) -> Result<Mzd, NoMemory>
-        requires { n ≤ 2 ^ 24 }
+        requires { n ≤ MOST_SIDE }
         ensures { IfOk result (λ m. m ≡ identity gf2 n) }
     {
         let mut m = Mzd::zeros(alloc, n, n)?;
@@ -90,8 +91,8 @@ impl Mzd {
     /// The matrix in a whole rectangle of words, whose bits past the last column are 0.
     pub(crate) fn of(words: OwnedWords, cols: u32) -> Mzd
         requires wide { words.width ≡ words_per_row cols }
-        requires few_rows { words.rows ≤ 2 ^ 24 }
-        requires few_cols { cols ≤ 2 ^ 24 }
+        requires few_rows { words.rows ≤ MOST_SIDE }
+        requires few_cols { cols ≤ MOST_SIDE }
         requires padded { IsPadded (window words cols) }
         ensures { result ≡ held words cols }
     {
@@ -104,8 +105,8 @@ impl Mzd {
         ensures rows { result ≡ self.now.rows }
         ensures matrix { IsMatrix self.now }
         ensures over_gf2 { self.now.field ≡ gf2 }
-        ensures few_rows { self.now.rows ≤ 2 ^ 24 }
-        ensures few_cols { self.now.cols ≤ 2 ^ 24 }
+        ensures few_rows { self.now.rows ≤ MOST_SIDE }
+        ensures few_cols { self.now.cols ≤ MOST_SIDE }
     {
         self.words.words().rows() as u32
     }
@@ -115,8 +116,8 @@ impl Mzd {
         ensures cols { result ≡ self.now.cols }
         ensures matrix { IsMatrix self.now }
         ensures over_gf2 { self.now.field ≡ gf2 }
-        ensures few_rows { self.now.rows ≤ 2 ^ 24 }
-        ensures few_cols { self.now.cols ≤ 2 ^ 24 }
+        ensures few_rows { self.now.rows ≤ MOST_SIDE }
+        ensures few_cols { self.now.cols ≤ MOST_SIDE }
     {
         self.cols
     }
@@ -148,7 +149,7 @@ mod tests {
 
     fn writes_last(alloc: Global, cols: u32) -> Result<bool, NoMemory>
         requires some { 0 < cols }
-        requires few { cols ≤ 2 ^ 24 }
+        requires few { cols ≤ MOST_SIDE }
     {
         let mut m = Mzd::zeros(alloc, 2, cols)?;
         m.put(1, cols - 1, true);

@@ -3,6 +3,7 @@
 ghost use Rattle.std.specs.Prelude.{◌≡◌, ◌^◌, ◌≤◌};
 ghost use Rattle.m4_model.specs.Text.{words_per_row};
 
+use crate::MOST_SIDE;
 use crate::word::word_of;
 use m4_area::View;
 use m4_bits::{get_bit, take_bits, words_for};
@@ -31,8 +32,8 @@ impl<'a> Win<'a> {
     pub fn rows(&self) -> u32
         ensures rows { result ≡ (shown self.now).rows }
         ensures matrix { IsMatrix (shown self.now) }
-        ensures few_rows { (shown self.now).rows ≤ 2 ^ 24 }
-        ensures few_cols { (shown self.now).cols ≤ 2 ^ 24 }
+        ensures few_rows { (shown self.now).rows ≤ MOST_SIDE }
+        ensures few_cols { (shown self.now).cols ≤ MOST_SIDE }
     {
         self.view.rows() as u32
     }
@@ -42,8 +43,8 @@ impl<'a> Win<'a> {
     pub fn cols(&self) -> u32
         ensures cols { result ≡ (shown self.now).cols }
         ensures matrix { IsMatrix (shown self.now) }
-        ensures few_rows { (shown self.now).rows ≤ 2 ^ 24 }
-        ensures few_cols { (shown self.now).cols ≤ 2 ^ 24 }
+        ensures few_rows { (shown self.now).rows ≤ MOST_SIDE }
+        ensures few_cols { (shown self.now).cols ≤ MOST_SIDE }
     {
         self.cols
     }

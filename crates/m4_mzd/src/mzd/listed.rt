@@ -7,6 +7,7 @@ ghost use Rattle.m4_mzd.specs.Shown.{bits_within};
 ghost use Rattle.m4_mzd.specs.Rows.{bits_of_digits};
 
 use super::Mzd;
+use crate::MOST_SIDE;
 use m4_model::NoMemory;
 use std::alloc::Global;
 
@@ -18,8 +19,8 @@ impl Mzd {
         cols: u32,
         rows: &[[u64; W]],
     ) -> Result<Mzd, NoMemory>
-        requires few_rows { length rows.now ≤ 2 ^ 24 }
-        requires few_cols { cols ≤ 2 ^ 24 }
+        requires few_rows { length rows.now ≤ MOST_SIDE }
+        requires few_cols { cols ≤ MOST_SIDE }
         requires wide { W ≡ words_per_row cols }
         ensures { IfOk result (λ m. m ≡ record { field = gf2; rows = length rows.now; cols = cols; entries = map (bits_within cols) rows.now }) }
     {
@@ -32,8 +33,8 @@ impl Mzd {
 
     /// The matrix of these rows of digits, as `&[*b"101", *b"011"]`: the entry is 1 where the digit is `1`, and else 0.
     pub fn from_digits<const N: usize>(alloc: Global, rows: &[[u8; N]]) -> Result<Mzd, NoMemory>
-        requires few_rows { length rows.now ≤ 2 ^ 24 }
-        requires few_cols { N ≤ 2 ^ 24 }
+        requires few_rows { length rows.now ≤ MOST_SIDE }
+        requires few_cols { N ≤ MOST_SIDE }
         ensures { IfOk result (λ m. m ≡ record { field = gf2; rows = length rows.now; cols = N; entries = map bits_of_digits rows.now }) }
     {
         let mut m = Mzd::zeros(alloc, rows.len() as u32, N as u32)?;
