@@ -31,7 +31,7 @@ pub(crate) fn fill_with_sums<L: Ledger>(
     ensures last { sum.new ≡ record sum.old { bits = row (subset_sums (shown b.now) first bits) (gray (2 ^ bits - 1)) ∷ [] } }
     ensures ticks { steps.new + 1 ≡ steps.old + 2 ^ bits }
 {
-    let _width = b.cols();
+    let _rows = b.rows();
     let codes = part.rows();
     part.clear_row(0);
     sum.clear();

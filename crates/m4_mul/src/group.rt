@@ -96,7 +96,7 @@ fn fill_slots<L: Ledger>(
     ensures ticks { steps.new ≡ steps.old + additions 0 width tables.old.k }
 {
     let k = tables.k();
-    let _inner = b.rows();
+    let _rows = b.rows();
     let mut slot = 0;
     while slot * k < width {
         let _cols = tables.cols();
@@ -131,8 +131,8 @@ fn add_entries<const T: usize, L: Ledger>(
     ensures ticks { steps.new ≡ steps.old + c.old.rows * T }
 {
     let k = tables.k();
-    let _inner = a.cols();
-    let _cols = b.cols();
+    let _rows = a.rows();
+    let _rows_of_b = b.rows();
     for i in 0..c.rows() {
         let index = index_of::<T>(a, i, first, width, k);
         tables.combine(c, i, &index, steps);

@@ -19,12 +19,12 @@ pub fn solve_left(side: Side, t: &Win, b: &mut WinMut)
     ensures solved { product (unit_triangle side (shown t.now)) (content b.new) ≡ content b.old }
     ensures stays { b.new ≡ showing b.old (content b.new) }
 {
-    let _triangle = t.rows();
+    let _rows_of_t = t.rows();
     let rows = b.rows();
     for step in 0..rows {
         take_row_out(side, t, b, place(rises_on_left(side), rows, step));
     }
-    let _solved = b.rows();
+    let _rows_after = b.rows();
 }
 
 /// `b` becomes the X with X T = b.
@@ -34,12 +34,12 @@ pub fn solve_right(side: Side, t: &Win, b: &mut WinMut)
     ensures solved { product (content b.new) (unit_triangle side (shown t.now)) ≡ content b.old }
     ensures stays { b.new ≡ showing b.old (content b.new) }
 {
-    let _triangle = t.rows();
-    let _cols = b.cols();
+    let _rows_of_t = t.rows();
+    let _rows = b.rows();
     for r in 0..b.rows() {
         solve_row(side, t, b, r);
     }
-    let _solved = b.cols();
+    let _rows_after = b.rows();
 }
 
 /// Row `r` becomes the x with x T = that row.
@@ -50,12 +50,12 @@ fn solve_row(side: Side, t: &Win, b: &mut WinMut, r: u32)
     ensures solved { SolvesRow side (shown t.now) (row (content b.old) r) (row (content b.new) r) }
     ensures stays { b.new ≡ showing b.old (with_row (content b.old) r (row (content b.new) r)) }
 {
-    let _triangle = t.rows();
+    let _rows_of_t = t.rows();
     let cols = b.cols();
     for step in 0..cols {
         take_entry_out(side, t, b, r, place(rises_on_right(side), cols, step));
     }
-    let _solved = b.cols();
+    let _rows_after = b.rows();
 }
 
 /// Whether a triangle on the left is solved from its first row on.

@@ -29,7 +29,7 @@ pub fn solve_lower_right<M: AddMul>(t: &Win, b: &mut WinMut, e: &mut M, cutoff: 
         solve_right(Side::Lower, t, b);
         return;
     }
-    let _cols = b.cols();
+    let _rows = b.rows();
     let cut = half(cols);
     let (first, _, corner, last) = quarters(*t, cut);
     let (mut left, mut right) = b.take().split_cols(cut);
@@ -58,7 +58,7 @@ pub fn solve_upper_right<M: AddMul>(t: &Win, b: &mut WinMut, e: &mut M, cutoff: 
         solve_right(Side::Upper, t, b);
         return;
     }
-    let _cols = b.cols();
+    let _rows = b.rows();
     let cut = half(cols);
     let (first, corner, _, last) = quarters(*t, cut);
     let (mut left, mut right) = b.take().split_cols(cut);

@@ -59,8 +59,8 @@ fn add_where(t: &Win, first: u32, column: u32, rows: &mut WinMut, from: &Win, s:
     ensures { rows.new ≡ showing rows.old (matrix_of gf2 rows.old.rows rows.old.cols
         (λ r j. bit_xor (at (content rows.old) r j) (mul gf2 (at (shown from.now) s j) (at (shown t.now) (first + r) column)))) }
 {
-    let _source = from.cols();
-    let _triangle = t.rows();
+    let _rows = from.rows();
+    let _rows_of_t = t.rows();
     for r in 0..rows.rows() {
         if t.get(first + r, column) {
             rows.add_tail(r, from, s, 0);

@@ -32,8 +32,8 @@ fn take_one_out(side: Side, t: &Win, b: &mut WinMut, r: u32, j: u32)
     requires one { at (content b.old) r j ≡ 1 }
     ensures { b.new ≡ showing b.old (with_row (content b.old) r (without_entry side (shown t.now) (row (content b.old) r) j)) }
 {
-    let _cols = b.cols();
-    let _triangle = t.rows();
+    let _rows = b.rows();
+    let _rows_of_t = t.rows();
     match side {
         Side::Lower => {
             b.add_tail(r, t, j, 0);

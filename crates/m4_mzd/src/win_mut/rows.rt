@@ -62,7 +62,7 @@ impl WinMut {
         requires same_cols { (shown from.now).cols ≡ self.old.cols }
         ensures { self.new ≡ showing self.old (shown from.now) }
     {
-        let _cols = from.cols();
+        let _rows = from.rows();
         for r in 0..self.rows() {
             self.copy_row(r, from, r);
         }

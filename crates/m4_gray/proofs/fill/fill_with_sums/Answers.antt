@@ -53,7 +53,7 @@ loop-i-preserved g c =
     let small : i < 2 ^ 32 = omega arith in
     let lowest = bit_at-trailing_zeros w32 i some small in
     let next : row_sum (row S (gray (i - 1))) (row B (first + p)) ≡ row S (gray i) =
-    row-next B first bits i p c.cols-width.ensures.matrix c.requires.in_rows some below within lowest.1 lowest.2 in
+    row-next B first bits i p c.rows-rows.ensures.matrix c.requires.in_rows some below within lowest.1 lowest.2 in
     let summed : c.add_row.new.self ≡ record sum { bits = row S (gray i) ∷ [] } =
     c.add_row.ensures.row
     ∙ ap (λ (w : Window). record w { bits = set w.bits 0 (row_sum (get_or w.bits 0 []) (row B (first + p))) }) c.loop-i.invariant.sum

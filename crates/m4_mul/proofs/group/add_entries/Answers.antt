@@ -68,7 +68,7 @@ loop-i-preserved g c =
     let same_cols : C.cols ≡ B.cols = sym c.requires.cols in
     let entries = sum_of xs (picked t B.cols index) in
     let sums : (j : ℕ) → j < C.cols → get_or entries j 0 ≡ bit_xor (at C i j) (h i j) = λ j inside.
-    at-summed t A B i first width g.row.T index c.requires.filled is c.cols-inner.ensures.matrix c.cols-cols.ensures.matrix refl refl in_a c.requires.in_a c.requires.in_b xs j
+    at-summed t A B i first width g.row.T index c.requires.filled is c.rows-rows.ensures.matrix c.rows-rows_of_b.ensures.matrix refl refl in_a c.requires.in_a c.requires.in_b xs j
     (long ∙ same_cols) c.index_of-index.ensures.long c.requires.enough (omega (arith, inside, same_cols))
     ∙ ap (λ x. bit_xor x (h i j)) (at-added_row C h i j in_rows inside) in
     record {

@@ -42,7 +42,7 @@ loop-slot-preserved g c =
     let power : 2 ^ c.min.result ≡ 2 ^ bits = ap (λ n. 2 ^ n) bits_k in
     let positive : 0 < 2 ^ bits = pow_pos bits in
     record {
-      filled = subst P (sym filled_by) (filled-more t B first width slot c.cols-cols.ensures.shape c.rows-inner.ensures.matrix in_slots wide c.loop-slot.invariant.filled);
+      filled = subst P (sym filled_by) (filled-more t B first width slot c.cols-cols.ensures.shape c.rows-rows.ensures.matrix in_slots wide c.loop-slot.invariant.filled);
       sizes = record {
         k = ap (λ (s : Slots). s.k) filled_by ∙ sizes.k;
         count = ap (λ (s : Slots). s.count) filled_by ∙ sizes.count;

@@ -10,7 +10,7 @@ pub loop-t-init : goal.loop-t-init
 loop-t-init g c =
     let W = c.args.c.now in
     ap (showing W)
-    (with_terms-none (content W) (shown c.args.a.now) (shown c.args.b.now) c.args.i c.cols-width.ensures.shape.matrix c.requires.in_rows (omega (arith, c.requires.cols)))
+    (with_terms-none (content W) (shown c.args.a.now) (shown c.args.b.now) c.args.i c.rows-rows.ensures.shape.matrix c.requires.in_rows (omega (arith, c.requires.cols)))
 
 pub add_row-requires-clause-in_rows : goal.add_row-requires-clause-in_rows
 add_row-requires-clause-in_rows g c = rw c.loop-t.invariant c.requires.in_rows
@@ -31,7 +31,7 @@ loop-t-preserved g c =
           w.c-is ∙ (w.add_row.ensures.row
           ∙ (ap (λ (L : Window). showing L (with_row (content L) i (row_sum (row (content L) i) (row B t)))) c.loop-t.invariant
           ∙ ap (showing W)
-          (with_terms-one (content W) A B i t c.cols-width.ensures.shape.matrix c.requires.in_rows (omega (arith, c.requires.cols)) refl refl c.rows-t-end.ensures.matrix below (c.get.ensures.one.0 w.if-get.true))))
+          (with_terms-one (content W) A B i t c.rows-rows.ensures.shape.matrix c.requires.in_rows (omega (arith, c.requires.cols)) refl refl c.rows-t-end.ensures.matrix below (c.get.ensures.one.0 w.if-get.true))))
       | else-get w ↦
           w.c-is ∙ (c.loop-t.invariant
           ∙ ap (showing W)

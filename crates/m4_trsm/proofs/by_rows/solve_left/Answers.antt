@@ -45,10 +45,10 @@ returns-clause-solved c =
     let T = shown c.args.t.now in
     let all : now.step ≡ w.rows = omega (arith, c.rows-rows.ensures.rows, now.auto.step-end) in
     solved_left c.args.side T w.rows
-    (record { is_matrix = c.rows-triangle.ensures.matrix; over = refl; rows = c.requires.fits; cols = sym c.requires.square ∙ c.requires.fits })
+    (record { is_matrix = c.rows-rows_of_t.ensures.matrix; over = refl; rows = c.requires.fits; cols = sym c.requires.square ∙ c.requires.fits })
     w.cols (content now.b) (content w)
     (record {
-      is_matrix = c.rows-solved.ensures.shape.matrix;
+      is_matrix = c.rows-rows_after.ensures.shape.matrix;
       over = refl;
       rows = ap (λ (x : Window). x.rows) now.invariant.stays;
       cols = ap (λ (x : Window). x.cols) now.invariant.stays;

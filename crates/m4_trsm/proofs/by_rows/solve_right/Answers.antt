@@ -9,13 +9,13 @@ returns-clause-solved c =
     let w = c.args.b.now in
     let now = c.loop-r in
     solved_right c.args.side (shown c.args.t.now) w.cols
-    (record { is_matrix = c.rows-triangle.ensures.matrix; over = refl; rows = c.requires.square ∙ c.requires.fits; cols = c.requires.fits })
+    (record { is_matrix = c.rows-rows_of_t.ensures.matrix; over = refl; rows = c.requires.square ∙ c.requires.fits; cols = c.requires.fits })
     w.rows (content now.b) (content w)
     (record {
-      is_matrix = c.cols-solved.ensures.shape.matrix;
+      is_matrix = c.rows-rows_after.ensures.shape.matrix;
       over = refl;
       rows = ap (λ (x : Window). x.rows) now.invariant.stays;
       cols = ap (λ (x : Window). x.cols) now.invariant.stays;
     })
-    (record { is_matrix = c.cols-cols.ensures.shape.matrix; over = refl; rows = refl; cols = refl })
+    (record { is_matrix = c.rows-rows.ensures.shape.matrix; over = refl; rows = refl; cols = refl })
     (λ i below. now.invariant.solved i (omega (arith, c.rows-r-end.ensures.rows)))

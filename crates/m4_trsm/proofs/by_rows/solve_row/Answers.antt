@@ -61,7 +61,7 @@ returns-clause-solved c =
     let high : r < now.b.rows = omega (arith, ap (λ (x : Window). x.rows) now.invariant.stays, c.requires.in_rows) in
     let wide = ap (λ (x : Window). x.cols) now.invariant.stays in
     solved_row c.args.side T n
-    (record { is_matrix = c.rows-triangle.ensures.matrix; over = refl; rows = c.requires.square ∙ c.requires.fits; cols = c.requires.fits })
+    (record { is_matrix = c.rows-rows_of_t.ensures.matrix; over = refl; rows = c.requires.square ∙ c.requires.fits; cols = c.requires.fits })
     (row (content w) r) (row (content now.b) r) (c.cols-cols.ensures.shape.matrix.width r c.requires.in_rows) now.invariant.long
-    (λ s within. c.cols-solved.ensures.shape.matrix.elements r s high (omega (arith, wide)))
+    (λ s within. c.rows-rows_after.ensures.shape.matrix.elements r s high (omega (arith, wide)))
     (λ p within. subst (λ k. restored_right c.args.side T (row (content now.b) r) n k p ≡ get_or (row (content w) r) p 0) all (now.invariant.left p within))

@@ -10,7 +10,7 @@ pub loop-r-init : goal.loop-r-init
 loop-r-init c =
     let W = c.args.rows.now in
     ap (showing W) (added_where-none (content W) (shown c.args.from.now) (shown c.args.t.now) c.args.first c.args.column c.args.s
-    c.rows-r-end.ensures.shape.matrix refl c.cols-source.ensures.matrix refl c.requires.same_cols c.requires.in_from)
+    c.rows-r-end.ensures.shape.matrix refl c.rows-rows.ensures.matrix refl c.requires.same_cols c.requires.in_from)
 
 pub add_tail-requires-clause-in_rows : goal.add_tail-requires-clause-in_rows
 add_tail-requires-clause-in_rows c = rw c.loop-r.invariant (omega (arith, c.rows-r-end.ensures.rows))
@@ -31,12 +31,12 @@ loop-r-preserved c =
           w.rows-is ∙ (w.add_tail.ensures
           ∙ (ap (λ (L : Window). showing L (with_row (content L) r (row_sum (row (content L) r) (row F c.args.s)))) c.loop-r.invariant
           ∙ ap (showing W)
-          (added_where-one C F T c.args.first c.args.column c.args.s c.rows-r-end.ensures.shape.matrix refl c.cols-source.ensures.matrix refl c.requires.same_cols c.requires.in_from
+          (added_where-one C F T c.args.first c.args.column c.args.s c.rows-r-end.ensures.shape.matrix refl c.rows-rows.ensures.matrix refl c.requires.same_cols c.requires.in_from
           r below (c.get.ensures.one.0 w.if-get.true))))
       | else-get w ↦
           w.rows-is ∙ (c.loop-r.invariant
           ∙ ap (showing W)
-          (added_where-zero C F T c.args.first c.args.column c.args.s c.rows-r-end.ensures.shape.matrix refl c.cols-source.ensures.matrix refl c.requires.same_cols c.requires.in_from
+          (added_where-zero C F T c.args.first c.args.column c.args.s c.rows-r-end.ensures.shape.matrix refl c.rows-rows.ensures.matrix refl c.requires.same_cols c.requires.in_from
           r below (rw w.if-get.false at c.get.ensures.value)))
     ]
 
@@ -45,5 +45,5 @@ returns c =
     let W = c.args.rows.now in
     c.loop-r.invariant
     ∙ ap (showing W) (added_where-all (content W) (shown c.args.from.now) (shown c.args.t.now) c.args.first c.args.column c.args.s
-    c.rows-r-end.ensures.shape.matrix refl c.cols-source.ensures.matrix refl c.requires.same_cols c.requires.in_from
+    c.rows-r-end.ensures.shape.matrix refl c.rows-rows.ensures.matrix refl c.requires.same_cols c.requires.in_from
     c.loop-r.r (omega (arith, c.rows-r-end.ensures.rows)))

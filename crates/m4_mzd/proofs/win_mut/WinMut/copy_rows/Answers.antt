@@ -16,7 +16,7 @@ copy_row-requires c = rw c.loop-r.invariant.so_far (record {
 pub loop-r-preserved : goal.loop-r-preserved
 loop-r-preserved c = record {
   so_far = copied_more c.args.self.now c.loop-r.self c.copy_row.new.self (shown c.args.from.now).entries c.loop-r.r
-      (omega (arith, c.cols-cols.ensures.matrix.height, c.requires.same_rows, c.rows-r-end.ensures.rows, c.loop-r-test.true))
+      (omega (arith, c.rows-rows.ensures.matrix.height, c.requires.same_rows, c.rows-r-end.ensures.rows, c.loop-r-test.true))
       (omega (arith, c.rows-r-end.ensures.shape.matrix.height, c.rows-r-end.ensures.rows, c.loop-r-test.true))
       c.loop-r.invariant.so_far c.copy_row.ensures;
   all = c.rows-r-end.ensures.rows;
@@ -26,5 +26,5 @@ pub returns : goal.returns
 returns c =
     c.loop-r.invariant.so_far
     ∙ copied_all c.args.self.now (shown c.args.from.now).entries c.loop-r.r
-    (omega (arith, c.cols-cols.ensures.matrix.height, c.requires.same_rows, c.rows-r-end.ensures.rows, c.loop-r.auto.r-end, c.loop-r-test.false))
+    (omega (arith, c.rows-rows.ensures.matrix.height, c.requires.same_rows, c.rows-r-end.ensures.rows, c.loop-r.auto.r-end, c.loop-r-test.false))
     (omega (arith, c.rows-r-end.ensures.shape.matrix.height, c.rows-r-end.ensures.rows, c.loop-r.auto.r-end, c.loop-r-test.false))
