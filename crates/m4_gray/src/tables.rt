@@ -11,7 +11,7 @@ ghost use Rattle.m4_gray.specs.Slots.{IsSlots, filled, picked, subset_sums};
 
 use crate::fill::fill_with_sums;
 use m4_model::NoMemory;
-use m4_mzd::{Mzd, Rect, Steps, Win, WinMut};
+use m4_mzd::{MOST_SIDE, Mzd, Rect, Steps, Win, WinMut};
 use std::alloc::Global;
 use std::marker::Model;
 use std::sync::ledger::Ledger;
@@ -39,13 +39,13 @@ impl Model for Tables {
 }
 
 impl Tables {
-    /// So many tables of `2^k` entries, for rows of up to `cols` columns. Every entry is a row of zeros.
-    pub fn new(alloc: Global, k: u32, tables: u32, cols: u32) -> Result<Tables, NoMemory>
+    /// For rows of up to `cols` columns so many tables of `2^k` entries. Every entry is a row of zeros.
+    pub fn new(alloc: Global, cols: u32, k: u32, tables: u32) -> Result<Tables, NoMemory>
+        requires few_cols { cols ≤ MOST_SIDE }
         requires some_k { 1 ≤ k }
         requires small_k { k ≤ 8 }
         requires some_tables { 1 ≤ tables }
         requires few_tables { tables ≤ 8 }
-        requires few_cols { cols ≤ 2 ^ 24 }
         ensures { IfOk result (λ t. t ≡ record { k = k; count = tables; entries = zero_matrix gf2 (tables * 2 ^ k) cols }) }
     {
         let entries = Mzd::zeros(alloc, tables << k, cols)?;

@@ -35,7 +35,7 @@ fn adds_entries<L: Ledger>(alloc: Global, blank: Blank) -> Result<bool, NoMemory
     let mut steps = Steps::<L>::new(blank);
     let rows = Mzd::identity(alloc, 2)?;
     let mut sums = Mzd::zeros(alloc, 4, 2)?;
-    let mut tables = Tables::new(alloc, 2, 1, 2)?;
+    let mut tables = Tables::new(alloc, 2, 2, 1)?;
     tables.fill(0, &rows.all(), 0, 2, &mut steps);
     add_entry(&mut sums, &tables, 0, &mut steps);
     add_entry(&mut sums, &tables, 1, &mut steps);

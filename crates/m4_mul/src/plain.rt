@@ -5,7 +5,7 @@ ghost use Rattle.m4_model.specs.Matrix.{added, product, row, row_sum, with_row};
 ghost use Rattle.m4_mzd.specs.Window.{content, showing};
 ghost use Rattle.m4_mzd.specs.Seen.{shown};
 
-use m4_mzd::{AddMul, Shape, Steps, Win, WinMut};
+use m4_mzd::{AddMul, MOST_SIDE, Shape, Steps, Win, WinMut};
 use std::marker::Brand;
 use std::sync::ledger::{Blank, Ledger};
 
@@ -19,9 +19,9 @@ impl AddMul for Plain {
 
     fn reach(&self) -> Shape {
         Shape {
-            m: 1 << 24,
-            l: 1 << 24,
-            n: 1 << 24,
+            m: MOST_SIDE,
+            l: MOST_SIDE,
+            n: MOST_SIDE,
         }
     }
 
@@ -54,7 +54,7 @@ fn add_row_of_product<L: Ledger>(c: &mut WinMut, i: u32, a: &Win, b: &Win, steps
     requires cols { (shown b.now).cols ≡ c.old.cols }
     ensures { c.new ≡ showing c.old (with_row (content c.old) i (row_sum (row (content c.old) i) (row (product (shown a.now) (shown b.now)) i))) }
 {
-    let _width = c.cols();
+    let _rows = c.rows();
     for t in 0..b.rows() {
         if a.get(i, t) {
             c.add_row(i, b, t, steps);

@@ -9,7 +9,7 @@ ghost use Rattle.m4_mzd.specs.Seen.{shown};
 use crate::group::add_group;
 use m4_gray::Tables;
 use m4_model::NoMemory;
-use m4_mzd::{AddMul, Shape, Steps, Win, WinMut};
+use m4_mzd::{AddMul, MOST_SIDE, Shape, Steps, Win, WinMut};
 use std::alloc::Global;
 use std::marker::{Brand, Model};
 use std::sync::ledger::{Blank, Ledger};
@@ -34,7 +34,7 @@ impl Model for Table {
 impl Table {
     /// The engine for products of up to `cols` columns, with so many tables of `2^k` entries.
     pub fn new(alloc: Global, cols: u32, k: u32, tables: u32) -> Result<Table, NoMemory>
-        requires few_cols { cols ≤ 2 ^ 24 }
+        requires few_cols { cols ≤ MOST_SIDE }
         requires some_k { 1 ≤ k }
         requires small_k { k ≤ 8 }
         requires some_tables { 1 ≤ tables }
@@ -42,7 +42,7 @@ impl Table {
         ensures { IfOk result (λ t. t ≡ record { cols = cols; k = k; tables = tables }) }
     {
         Ok(Table {
-            tables: Tables::new(alloc, k, tables, cols)?,
+            tables: Tables::new(alloc, cols, k, tables)?,
         })
     }
 
@@ -79,8 +79,8 @@ impl AddMul for Table {
 
     fn reach(&self) -> Shape {
         Shape {
-            m: 1 << 24,
-            l: 1 << 24,
+            m: MOST_SIDE,
+            l: MOST_SIDE,
             n: self.tables.cols(),
         }
     }
