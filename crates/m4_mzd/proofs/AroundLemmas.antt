@@ -111,9 +111,6 @@ module _ (r0 r1 p q n : ℕ) (rows new : List (List ℕ)) (t : Patch r0 r1 p q n
   front_high : length (take r0 (take r1 rows) ++ inner) ≡ r1
   front_high = omega (arith, length-append (take r0 (take r1 rows)) inner, above_high, inner_high, t.in_order)
 
-  pub patched_high : length (rows_patched r0 r1 p q rows new) ≡ length rows
-  patched_high = omega (arith, length-append (take r0 (take r1 rows) ++ inner) (drop r1 rows), front_high, length-drop r1 rows, t.in_rows)
-
   mid_row : (k : ℕ) → k < r1 - r0 → row_of mid k ≡ row_of rows (r0 + k)
   mid_row k below = get_or-drop r0 (take r1 rows) k [] ∙ get_or-take r1 rows (r0 + k) [] (omega arith)
 

@@ -8,9 +8,6 @@ use Rattle.m4_mzd.proofs.PairLemmas.{copy_next, copied, copied_more}
 abbrev pub begun : Window → ℕ → List ℕ → ℕ → Window
 begun w r entries n = record w { bits = set w.bits r (take n entries ++ drop n (get_or w.bits r [])) }
 
-pub begun_none : (w : Window) (r : ℕ) (entries : List ℕ) → w ≡ begun w r entries 0
-begun_none w r entries = ap {B = Window} (λ l. record w { bits = l }) (sym (set-get_or w.bits r []))
-
 pub begun_more : (first now next : Window) (r n value : ℕ) (entries : List ℕ) → r < length first.bits → n < length entries → n < length (get_or first.bits r [])
     → value ≡ get_or entries n 0 → now ≡ begun first r entries n → next ≡ record now { bits = set now.bits r (set (get_or now.bits r []) n value) }
     → next ≡ begun first r entries (n + 1)
@@ -21,11 +18,6 @@ begun_more first now next r n value entries high below within same is written =
     ∙ ap {B = Window} (λ l. record first { bits = set (set first.bits r part) r (set l n value) }) (get_or-set_same first.bits r part [] high)
     ∙ ap {B = Window} (λ l. record first { bits = l }) (set-set first.bits r part (set part n value))
     ∙ ap {B = Window} (λ l. record first { bits = set first.bits r l }) (ap (set part n) same ∙ copy_next 0 n entries old below within)
-
-pub begun_all : (w : Window) (r n : ℕ) (entries : List ℕ) → length entries ≤ n → length (get_or w.bits r []) ≤ n → begun w r entries n ≡ record w { bits = set w.bits r entries }
-begun_all w r n entries all old =
-    ap {B = Window} (λ l. record w { bits = set w.bits r l })
-    (ap (λ l. take n entries ++ l) (drop_all n (get_or w.bits r []) old) ∙ append-nil (take n entries) ∙ take_all n entries all)
 
 -- one more row of a list of them was written
 pub listed_more : {X : Type 0} (x : X) (f : X → List ℕ) (first now next : Window) (rows : List X) (n : ℕ) → n < length rows → n < length first.bits
