@@ -6,13 +6,13 @@ ghost use Rattle.m4_mzd.specs.Seen.{shown};
 
 use crate::part::copy_columns;
 use m4_model::NoMemory;
-use m4_mzd::{Mzd, Win};
+use m4_mzd::{MOST_SIDE, Mzd, Win};
 use std::alloc::Global;
 
 /// `a` over `b`, a matrix of as many columns.
 pub fn stack(alloc: Global, a: &Win, b: &Win) -> Result<Mzd, NoMemory>
     requires same_cols { (shown b.now).cols ≡ (shown a.now).cols }
-    requires few_rows { (shown a.now).rows + (shown b.now).rows ≤ 2 ^ 24 }
+    requires few_rows { (shown a.now).rows + (shown b.now).rows ≤ MOST_SIDE }
     ensures { IfOk result (λ m. m ≡ above (shown a.now) (shown b.now)) }
 {
     let rows = a.rows();
@@ -28,7 +28,7 @@ pub fn stack(alloc: Global, a: &Win, b: &Win) -> Result<Mzd, NoMemory>
 /// `a` left of `b`, a matrix of as many rows.
 pub fn augment(alloc: Global, a: &Win, b: &Win) -> Result<Mzd, NoMemory>
     requires same_rows { (shown b.now).rows ≡ (shown a.now).rows }
-    requires few_cols { (shown a.now).cols + (shown b.now).cols ≤ 2 ^ 24 }
+    requires few_cols { (shown a.now).cols + (shown b.now).cols ≤ MOST_SIDE }
     ensures { IfOk result (λ m. m ≡ beside (shown a.now) (shown b.now)) }
 {
     let cols = a.cols();

@@ -32,7 +32,7 @@ pub(crate) fn copy_columns(dst: &mut WinMut, c: u32, src: &Win, r0: u32, first: 
     requires in_src_cols { first + count ≤ (shown src.now).cols }
     ensures { dst.new ≡ showing dst.old (replace (content dst.old) 0 c (cut (shown src.now) r0 first (r0 + dst.old.rows) (first + count))) }
 {
-    let _cols = src.cols();
+    let _rows = src.rows();
     for r in 0..dst.rows() {
         dst.copy_part(r, c, src, r0 + r, first, count);
     }

@@ -13,7 +13,7 @@ pub fn add_into(dst: &mut WinMut, src: &Win)
     requires same_cols { (shown src.now).cols ≡ dst.old.cols }
     ensures { dst.new ≡ showing dst.old (added (content dst.old) (shown src.now)) }
 {
-    let _cols = src.cols();
+    let _rows = src.rows();
     for r in 0..dst.rows() {
         dst.add_tail(r, src, r, 0);
     }

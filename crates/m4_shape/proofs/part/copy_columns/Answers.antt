@@ -33,7 +33,7 @@ loop-r-preserved c =
     record {
       so_far = row_step c.args.dst.now c.loop-r.dst c.copy_part.new.self rows r (λ xs. with_part c.args.c (part c.args.first c.args.count (row B (c.args.r0 + r))) xs)
           (omega (arith, many, below)) (omega (arith, c.rows-r-end.ensures.shape.matrix.height, below)) c.loop-r.invariant.so_far c.copy_part.ensures
-          (row_of_placed A B c.args.c c.args.r0 c.args.first c.args.count r c.rows-r-end.ensures.shape.matrix c.cols-cols.ensures.matrix below
+          (row_of_placed A B c.args.c c.args.r0 c.args.first c.args.count r c.rows-r-end.ensures.shape.matrix c.rows-rows.ensures.matrix below
           c.requires.in_cols c.requires.in_src_rows c.requires.in_src_cols);
       all = c.rows-r-end.ensures.rows;
     }

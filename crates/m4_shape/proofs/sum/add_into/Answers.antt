@@ -31,7 +31,7 @@ loop-r-preserved c =
           (omega (arith, many, c.rows-r-end.ensures.rows, c.loop-r-test.true))
           (omega (arith, c.rows-r-end.ensures.shape.matrix.height, c.rows-r-end.ensures.rows, c.loop-r-test.true))
           c.loop-r.invariant.so_far c.add_tail.ensures
-          (row_of_sum A B r c.rows-r-end.ensures.shape.matrix c.cols-cols.ensures.matrix c.requires.same_rows c.requires.same_cols
+          (row_of_sum A B r c.rows-r-end.ensures.shape.matrix c.rows-rows.ensures.matrix c.requires.same_rows c.requires.same_cols
           (omega (arith, c.rows-r-end.ensures.rows, c.loop-r-test.true)));
       all = c.rows-r-end.ensures.rows;
     }
