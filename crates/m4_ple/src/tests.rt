@@ -29,11 +29,23 @@ fn factors_of_a_ple(rt: HostRuntime) -> Result<(), Fail> {
     assert_eq!(rt; q, [1, 2, 7]);
     assert_eq!(rt; m, Mzd::from_digits(alloc, &[*b"010", *b"101", *b"010"])?);
     let factors = ple_factors(alloc, &m.all(), &q[..rank as usize])?;
-    assert_eq!(rt; factors.l, Mzd::from_digits(alloc, &[*b"100", *b"110", *b"011"])?);
-    assert_eq!(rt; factors.e, Mzd::from_digits(alloc, &[*b"010", *b"001", *b"000"])?);
+    assert_eq!(rt;
+        factors.l,
+        Mzd::from_digits(alloc, &[*b"100", *b"110", *b"011"])?
+    );
+    assert_eq!(rt;
+        factors.e,
+        Mzd::from_digits(alloc, &[*b"010", *b"001", *b"000"])?
+    );
     let upper = pluq_factors(alloc, &sample(alloc)?.all(), 1)?;
-    assert_eq!(rt; upper.l, Mzd::from_digits(alloc, &[*b"100", *b"010", *b"001"])?);
-    assert_eq!(rt; upper.e, Mzd::from_digits(alloc, &[*b"010", *b"000", *b"000"])?);
+    assert_eq!(rt;
+        upper.l,
+        Mzd::from_digits(alloc, &[*b"100", *b"010", *b"001"])?
+    );
+    assert_eq!(rt;
+        upper.e,
+        Mzd::from_digits(alloc, &[*b"010", *b"000", *b"000"])?
+    );
     Ok(())
 }
 
