@@ -1,6 +1,6 @@
 -- A row of a window that is written digit by digit, and rows that are written from a list.
-use Rattle.std.proofs.Common.{◌≡◌, ℕ, ◌+◌, ◌<◌, ◌≤◌, List, [], ◌++◌, length, get_or, set, take, drop, map, sym, ◌∙◌, ap, arith}
-use Rattle.std.proofs.lemmas.List.{append-nil, drop_all, take_all, set-get_or, set-set, get_or-set_same, get_or-map, length-map}
+use Rattle.std.proofs.Common.{◌≡◌, ℕ, ◌+◌, ◌<◌, List, [], ◌++◌, length, get_or, set, take, drop, map, sym, ◌∙◌, ap, arith}
+use Rattle.std.proofs.lemmas.List.{set-set, get_or-set_same, get_or-map, length-map}
 use Rattle.m4_mzd.specs.Window.{Window}
 use Rattle.m4_mzd.proofs.PairLemmas.{copy_next, copied, copied_more}
 

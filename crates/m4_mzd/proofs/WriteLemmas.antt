@@ -1,8 +1,8 @@
 -- A row of a window that is written in whole words: the entries that it holds then, and what the window is.
-use Rattle.std.proofs.Common.{◌≡◌, ◌≢◌, ℕ, inl, inr, ◌+◌, ◌-◌, ◌^◌, ◌<◌, ◌≤◌, List, [], length, get_or, set, take, drop, map, replicate, refl, sym, ◌∙◌, ap, subst, arith, bit_xor, ◌*◌, ◌/◌, ◌%◌}
+use Rattle.std.proofs.Common.{◌≡◌, ◌≢◌, ℕ, inl, inr, ◌+◌, ◌-◌, ◌^◌, ◌<◌, ◌≤◌, List, [], length, get_or, set, map, replicate, refl, sym, ◌∙◌, ap, subst, arith, bit_xor, ◌*◌, ◌/◌, ◌%◌}
 use Rattle.std.specs.Int.{bit_at}
 use Rattle.std.proofs.lemmas.Bool.{cases_eq, cases_lt}
-use Rattle.std.proofs.lemmas.List.{length-map, get_or-map, get_or_past, length-set, length-append, length-take-le, length-drop, length-replicate, get_or-set_same, get_or-set_other, get_or_append_left, get_or-append_right, get_or-take, get_or-drop, get_or-replicate, map-set, set-get_or}
+use Rattle.std.proofs.lemmas.List.{length-map, get_or-map, get_or_past, length-set, length-replicate, get_or-set_same, get_or-set_other, get_or-replicate, map-set, set-get_or}
 use Rattle.m4_model.specs.Matrix.{row, row_sum}
 use Rattle.m4_model.specs.Text.{words_per_row}
 use Rattle.m4_bits.specs.Bits.{bit, last_bits, masked, overlaid}
