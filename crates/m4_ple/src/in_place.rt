@@ -10,28 +10,25 @@ ghost use Rattle.m4_ple.specs.Held.{HoldsPle, HoldsPluq};
 
 use crate::columns::exchange_columns;
 use crate::plain::ple_plain;
-use m4_gray::Tables;
 use m4_mzd::{AddMul, WinMut};
 
 /// Factors the window as P L E in its own place, and answers its rank r. What is told of `p` and `q`, and where L and E
 /// stand, is as for `ple_plain`.
 ///
-/// It takes an engine for products, tables for rows of as many columns, and the number of columns, at least 64, up to which
-/// a part isn't halved: they are for the recursion of Albrecht, Bard and Pernet, "Efficient dense Gaussian elimination over
-/// the field with two elements" (2011), section 4. Today the window is factored by `ple_plain`, whatever they are. It takes
-/// no memory and refuses nothing.
+/// It takes an engine for products, and the number of columns, at least 64, up to which a part isn't halved: they are for
+/// the recursion of Albrecht, Bard and Pernet, "Efficient dense Gaussian elimination over the field with two elements"
+/// (2011), section 4. Today the window is factored by `ple_plain`, whatever they are. It takes no memory and refuses
+/// nothing.
 pub fn ple<M: AddMul>(
     a: &mut WinMut,
     p: &mut [u32],
     q: &mut [u32],
     _engine: &mut M,
-    _tables: &mut Tables,
     _cutoff: u32,
 ) -> u32
     requires exchanges { length p.old ≡ a.old.rows }
     requires pivots { (length q.old ≡ a.old.rows) ⊎ (a.old.cols ≤ length q.old) }
     requires reached { (l : ℕ) → l ≤ a.old.rows → l ≤ a.old.cols → IsReached (M.limits _engine.old) a.old.rows l a.old.cols }
-    requires wide { a.old.cols ≤ _tables.old.entries.cols }
     requires cutoff { 64 ≤ _cutoff }
     ensures kept { a.new ≡ showing a.old (content a.new) }
     ensures exchanges { AreSwaps a.old.rows p.new }
@@ -41,9 +38,6 @@ pub fn ple<M: AddMul>(
     ensures rank { result ≤ length q.new }
     ensures factors { HoldsPle (content a.old) (swaps a.old.rows p.new) (take result q.new) (content a.new) }
     ensures reach { M.limits _engine.new ≡ M.limits _engine.old }
-    ensures tables_k { _tables.new.k ≡ _tables.old.k }
-    ensures tables_count { _tables.new.count ≡ _tables.old.count }
-    ensures tables_cols { _tables.new.entries.cols ≡ _tables.old.entries.cols }
 {
     ple_plain(a, p, q)
 }
@@ -58,13 +52,11 @@ pub fn pluq<M: AddMul>(
     p: &mut [u32],
     q: &mut [u32],
     engine: &mut M,
-    tables: &mut Tables,
     cutoff: u32,
 ) -> u32
     requires exchanges { length p.old ≡ a.old.rows }
     requires pivots { (length q.old ≡ a.old.rows) ⊎ (a.old.cols ≤ length q.old) }
     requires reached { (l : ℕ) → l ≤ a.old.rows → l ≤ a.old.cols → IsReached (M.limits engine.old) a.old.rows l a.old.cols }
-    requires wide { a.old.cols ≤ tables.old.entries.cols }
     requires cutoff { 64 ≤ cutoff }
     ensures kept { a.new ≡ showing a.old (content a.new) }
     ensures exchanges { AreSwaps a.old.rows p.new }
@@ -77,12 +69,9 @@ pub fn pluq<M: AddMul>(
     ensures pivots { ArePivots (content a.old) (take result q.new) }
     ensures factors { HoldsPluq (content a.old) (swaps a.old.rows p.new) (swaps a.old.cols (take result q.new)) result (content a.new) }
     ensures reach { M.limits engine.new ≡ M.limits engine.old }
-    ensures tables_k { tables.new.k ≡ tables.old.k }
-    ensures tables_count { tables.new.count ≡ tables.old.count }
-    ensures tables_cols { tables.new.entries.cols ≡ tables.old.entries.cols }
 {
     let _rows = a.rows();
-    let rank = ple(a, p, q, engine, tables, cutoff);
+    let rank = ple(a, p, q, engine, cutoff);
     exchange_columns(a, &q[..rank as usize]);
     rank
 }
