@@ -14,9 +14,9 @@ use Rattle.m4_model.proofs.ProductLemmas.{times, times-same, times-xor_right, ti
 use Rattle.m4_model.proofs.ShapeLemmas.{HasShape-own, IsElement-shape, at-product, at-transposed, at-zero_matrix, same_entries, HasShape-product, HasShape-transposed, HasShape-zero_matrix}
 use Rattle.m4_model.proofs.EchelonLemmas.{place_of, Contains-entry}
 use Rattle.m4_model.proofs.RankLemmas.{Contains_none}
-use Rattle.m4_model.proofs.FormLemmas.{pivots_of_reduced}
 use Rattle.m4_solve.specs.Reduction.{IsReducedAt}
 use Rattle.m4_solve.specs.Kernel.{AreOthers, IsKernelBasis}
+use Rattle.m4_solve.proofs.Ranks.{matrix_at, pivots_at}
 
 -- a number of a rising list stands in one place
 rising_apart : (g : List ℕ) (i t : ℕ) → IsRising g → i < length g → t < length g → i ≢ t → slice_index g t ≢ slice_index g i
@@ -27,14 +27,16 @@ rising_apart g i t rising first second other same = ⊎_elim
     (λ (after : t < i). let rises = rising t i after first in absurd (omega (arith, rises, same))))
     (cases_order i t)
 
-module _ (A R K : Matrix) (q g : List ℕ) (over : A.field ≡ gf2) (is_matrix : IsMatrix A) (reduced : IsReducedAt R A q) (others : AreOthers A.cols q g)
+module _ (A R K : Matrix) (q g : List ℕ) (over : A.field ≡ gf2) (reduced : IsReducedAt R A q) (others : AreOthers A.cols q g)
     (basis : IsKernelBasis R q g K) where
   laws : FieldLaws A.field
   laws = subst FieldLaws (sym over) gf2_laws
 
+  is_matrix : IsMatrix A
+  is_matrix = matrix_at over reduced
+
   pivots : ArePivots A q
-  unfolding laws
-  pivots = subst (ArePivots A) reduced.at_pivots (pivots_of_reduced A laws is_matrix R reduced.form)
+  pivots = pivots_at over reduced
 
   width : R.cols ≡ A.cols
   width = reduced.form.shape.cols

@@ -4,7 +4,7 @@ use Rattle.std.proofs.lemmas.Bool.{cases_lt, eq-eqb, ne_eqb}
 use Rattle.m4_model.specs.Field.{Field, gf2, mul}
 use Rattle.m4_model.specs.Matrix.{Matrix, IsMatrix, HasShape, at, identity, product}
 use Rattle.m4_model.specs.Shapes.{beside}
-use Rattle.m4_model.specs.Rank.{IsRising, IsFree, ArePivots}
+use Rattle.m4_model.specs.Rank.{IsFree, ArePivots}
 use Rattle.m4_model.specs.Forms.{IsReduced, IsInverse, Singular, IsSolution, NoSolution}
 use Rattle.m4_model.proofs.FieldLaws.{FieldLaws}
 use Rattle.m4_model.proofs.FieldLemmas.{sum_below-same}
@@ -18,6 +18,7 @@ use Rattle.m4_model.proofs.SingularLemmas.{singular_from_free, no_solution_from_
 use Rattle.m4_model.proofs.RankLemmas.{Contains_none}
 use Rattle.m4_model.proofs.RingLemmas.{HasShape-one}
 use Rattle.m4_solve.specs.Reduction.{IsReducedAt, IsReadOff}
+use Rattle.m4_solve.proofs.Ranks.{rank_at}
 
 module _ (A B : Matrix) (laws : FieldLaws A.field) (is_matrix : IsMatrix A) (b : HasShape A.field A.rows B.cols B) where
   a : HasShape A.field A.rows A.cols A
@@ -121,31 +122,6 @@ module _ (A B : Matrix) (laws : FieldLaws A.field) (is_matrix : IsMatrix A) (b :
             (λ (none : (s : ℕ) → s < length form.pivots → slice_index form.pivots s ≢ j). elsewhere j t inside within none)
             (place_of form.pivots j);
       }
-
--- what a reduced form with known pivots tells
-module _ {R M : Matrix} {q : List ℕ} (reduced : IsReducedAt R M q) where
-  pub rising_at : IsRising q
-  rising_at = subst IsRising reduced.at_pivots reduced.form.reduced.echelon.rising
-
-  pub columns_at : (s : ℕ) → s < length q → slice_index q s < R.cols
-  columns_at s inside =
-      let low = reduced.form.reduced.echelon.columns s (subst (λ (q : List ℕ). s < length q) (sym reduced.at_pivots) inside) in
-      subst (λ (q : List ℕ). slice_index q s < R.cols) reduced.at_pivots low
-
-  pub rows_at : length q ≤ R.rows
-  rows_at = subst (λ (q : List ℕ). length q ≤ R.rows) reduced.at_pivots reduced.form.reduced.echelon.within
-
-  pub rank_at : length q ≤ M.rows
-  rank_at =
-      let within = reduced.form.reduced.echelon.within in
-      let same = ap length reduced.at_pivots in
-      let rows = reduced.form.shape.rows in
-      omega (arith, within, same, rows)
-
--- the same for pivots and a matrix that are known by other names
-pub pivots_seen : (items seen : List ℕ) (R M N : Matrix) → seen ≡ items → M ≡ N → IsReducedAt R M items → IsReducedAt R N seen
-pivots_seen items seen R M N same made reduced =
-    subst (λ (q : List ℕ). IsReducedAt R N q) (sym same) (subst (λ (M : Matrix). IsReducedAt R M items) made reduced)
 
 module _ (A B R : Matrix) (q : List ℕ) (laws : FieldLaws A.field) (is_matrix : IsMatrix A) (b : HasShape A.field A.rows B.cols B) (over : A.field ≡ gf2)
     (reduced : IsReducedAt R (beside A B) q) where

@@ -31,7 +31,7 @@ pub record IsReadOff (R : Matrix) (q : List ℕ) (n : ℕ) (X : Matrix) : Type 0
   pub elsewhere : (j t : ℕ) → j < n → t < R.cols - n → ((s : ℕ) → s < length q → slice_index q s ≢ j) → at X j t ≡ 0
 
 -- Room for a matrix of so many rows and columns.
-pub record HasRoom (rows cols : ℕ) (room : Room) : Type 0 where
+pub record IsRoomFor (rows cols : ℕ) (room : Room) : Type 0 where
   pub exchanges : length room.exchanges.items ≡ rows
   pub pivots : (length room.pivots.items ≡ rows) ⊎ (cols ≤ length room.pivots.items)
   pub row_rows : room.row.rows ≡ 1

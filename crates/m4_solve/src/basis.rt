@@ -1,16 +1,16 @@
 //! The kernel of a matrix: a basis of what it takes to zero.
 
-ghost use Rattle.std.specs.Prelude.{◌≡◌, ◌≢◌, ℕ, ◌<◌, ◌≤◌, length, slice_index, IfOk};
-ghost use Rattle.m4_model.specs.Matrix.{at};
+ghost use Rattle.std.specs.Prelude.{◌≡◌, ◌≢◌, ℕ, ◌+◌, ◌<◌, ◌≤◌, length, slice_index, IfOk};
+ghost use Rattle.m4_model.specs.Matrix.{Matrix, at};
 ghost use Rattle.m4_model.specs.Rank.{IsRising};
-ghost use Rattle.m4_model.specs.Forms.{IsKernel};
+ghost use Rattle.m4_model.specs.Forms.{Reduced, IsKernel};
 ghost use Rattle.m4_mzd.specs.Seen.{shown};
-ghost use Rattle.m4_solve.specs.Context.{Serves, AreSameTables};
+ghost use Rattle.m4_solve.specs.Context.{Serves};
+ghost use Rattle.m4_solve.specs.Reduction.{IsReducedAt};
 ghost use Rattle.m4_solve.specs.Kernel.{AreOthers, IsKernelRow, IsKernelBasis};
 
 use crate::context::Ctx;
-use crate::forms::copied;
-use crate::room::form_of;
+use crate::forms::{ReducedForm, reduced_form};
 use m4_model::NoMemory;
 use m4_mzd::{AddMul, Mzd, Win};
 use std::alloc::Global;
@@ -18,21 +18,32 @@ use std::alloc::Global;
 /// A basis of the kernel of a matrix of any shape: as many rows as it has free columns, and the identity on these. It refuses
 /// nothing, but memory may be wanting.
 ///
-/// The matrix is brought to its reduced form. The row of a free column is read off that column: its entries go to the
-/// pivots.
+/// It is read off the reduced form of the matrix.
 pub fn kernel<M: AddMul>(alloc: Global, a: &Win, ctx: &mut Ctx<M>) -> Result<Mzd, NoMemory>
-    requires serves { Serves (M.limits ctx.old.engine) ctx.old.tables ctx.old.cutoff (shown a.now).rows (shown a.now).cols }
+    requires serves { Serves (M.limits ctx.old.engine) ctx.old.cutoff (shown a.now).rows (shown a.now).cols }
     ensures kernel { IfOk result (λ k. IsKernel k (shown a.now)) }
     ensures engine { M.limits ctx.new.engine ≡ M.limits ctx.old.engine }
-    ensures tables { AreSameTables ctx.old.tables ctx.new.tables }
     ensures cutoff { ctx.new.cutoff ≡ ctx.old.cutoff }
 {
-    let _cols = a.cols();
-    let copy = copied(alloc, a)?;
-    let form = form_of(alloc, copy, ctx)?;
+    let form = reduced_form(alloc, a, ctx)?;
+    let basis = kernel_of(alloc, &form)?;
+    Ok(basis)
+}
+
+/// The basis of the kernel of each matrix that has this reduced form: a row for each column that is no pivot. It refuses
+/// nothing, but memory may be wanting.
+///
+/// The row of a free column is read off that column: its entries go to the pivots.
+pub fn kernel_of(alloc: Global, form: &ReducedForm) -> Result<Mzd, NoMemory>
+    requires form { Reduced form.now.matrix form.now.pivots.items }
+    ensures kernel { IfOk result (λ k. (A : Matrix) → IsReducedAt form.now.matrix A form.now.pivots.items → IsKernel k A) }
+    ensures rows { IfOk result (λ k. k.rows + length form.now.pivots.items ≡ form.now.matrix.cols) }
+    ensures cols { IfOk result (λ k. k.cols ≡ form.now.matrix.cols) }
+{
     let pivots = form.pivots.as_slice();
     let free = others_below(alloc, pivots, form.matrix.cols())?;
-    Ok(basis_for(alloc, &form.matrix, pivots, &free)?)
+    let basis = basis_for(alloc, &form.matrix, pivots, &free)?;
+    Ok(basis)
 }
 
 /// The numbers below `n` that aren't among these rising ones.

@@ -1,13 +1,11 @@
 //! What an elimination works with beside the matrix.
 
-use m4_gray::Tables;
 use m4_mzd::AddMul;
 
-/// An engine for products, tables for rows, and the number of columns, at least 64, up to which a part of a matrix isn't
-/// halved. It serves for matrices of as many rows and columns as the engine reaches and the tables hold.
+/// An engine for products, and the number of columns, at least 64, up to which a part of a matrix isn't halved. It serves
+/// for matrices of as many rows and columns as the engine reaches.
 #[derive(Drop)]
 pub struct Ctx<M: AddMul> {
     pub engine: M,
-    pub tables: Tables,
     pub cutoff: u32,
 }

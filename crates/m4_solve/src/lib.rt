@@ -10,7 +10,7 @@ mod room;
 mod systems;
 
 pub use answers::{Inverse, Solution};
-pub use basis::kernel;
+pub use basis::{kernel, kernel_of};
 pub use context::Ctx;
-pub use forms::{echelon, rank};
+pub use forms::{ReducedForm, echelon, rank, reduced_form};
 pub use systems::{invert, solve};

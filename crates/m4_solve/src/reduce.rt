@@ -6,7 +6,7 @@ ghost use Rattle.m4_model.specs.Matrix.{HasShape, with_row};
 ghost use Rattle.m4_model.specs.Forms.{Echelon, Reduced};
 ghost use Rattle.m4_model.proofs.EquivalenceLemmas.{RowEquivalent};
 ghost use Rattle.m4_mzd.specs.Window.{content, showing};
-ghost use Rattle.m4_solve.specs.Context.{Serves, AreSameTables};
+ghost use Rattle.m4_solve.specs.Context.{Serves};
 ghost use Rattle.m4_solve.specs.Reduction.{swept, swept_row, IsReducedAt};
 
 use crate::context::Ctx;
@@ -16,7 +16,7 @@ use m4_ple::{keep_echelon, ple};
 /// Makes of the window its reduced row echelon form, and answers its rank, with the pivot columns in the front of `q`.
 ///
 /// `p` and `q` are room for the exchanges and the pivots of a PLE, and `spare` is a row of as many columns.
-pub(crate) fn reduce<M: AddMul>(
+pub(crate) fn reduce_window<M: AddMul>(
     a: &mut WinMut,
     p: &mut [u32],
     q: &mut [u32],
@@ -27,7 +27,7 @@ pub(crate) fn reduce<M: AddMul>(
     requires pivots { (length q.old ≡ a.old.rows) ⊎ (a.old.cols ≤ length q.old) }
     requires one_row { spare.old.rows ≡ 1 }
     requires same_cols { spare.old.cols ≡ a.old.cols }
-    requires serves { Serves (M.limits ctx.old.engine) ctx.old.tables ctx.old.cutoff a.old.rows a.old.cols }
+    requires serves { Serves (M.limits ctx.old.engine) ctx.old.cutoff a.old.rows a.old.cols }
     ensures kept { a.new ≡ showing a.old (content a.new) }
     ensures spare { spare.new ≡ showing spare.old (content spare.new) }
     ensures exchanges { length p.new ≡ length p.old }
@@ -35,11 +35,10 @@ pub(crate) fn reduce<M: AddMul>(
     ensures rank { result ≤ length q.new }
     ensures reduced { IsReducedAt (content a.new) (content a.old) (take result q.new) }
     ensures engine { M.limits ctx.new.engine ≡ M.limits ctx.old.engine }
-    ensures tables { AreSameTables ctx.old.tables ctx.new.tables }
     ensures cutoff { ctx.new.cutoff ≡ ctx.old.cutoff }
 {
     let _rows = a.rows();
-    let rank = ple(a, p, q, &mut ctx.engine, &mut ctx.tables, ctx.cutoff);
+    let rank = ple(a, p, q, &mut ctx.engine, ctx.cutoff);
     let _cols = a.cols();
     let pivots = &q[..rank as usize];
     keep_echelon(a, pivots, spare);

@@ -8,12 +8,12 @@ ghost use Rattle.m4_model.specs.Rank.{IsRising};
 ghost use Rattle.m4_mzd.specs.Window.{content, showing};
 ghost use Rattle.m4_mzd.specs.Seen.{shown};
 ghost use Rattle.m4_solve.specs.Answers.{TellsInverse, TellsSolution};
-ghost use Rattle.m4_solve.specs.Context.{Serves, AreSameTables};
+ghost use Rattle.m4_solve.specs.Context.{Serves};
 ghost use Rattle.m4_solve.specs.Reduction.{IsReducedAt, IsReadOff};
 
 use crate::answers::{Inverse, Solution};
 use crate::context::Ctx;
-use crate::room::form_of;
+use crate::forms::ReducedForm;
 use m4_model::NoMemory;
 use m4_mzd::{AddMul, Mzd, Win, WinMut};
 use m4_shape::augment;
@@ -31,16 +31,15 @@ pub fn solve<M: AddMul>(
 ) -> Result<Solution, NoMemory>
     requires same_rows { (shown b.now).rows ≡ (shown a.now).rows }
     requires few_cols { (shown a.now).cols + (shown b.now).cols ≤ 2 ^ 24 }
-    requires serves { Serves (M.limits ctx.old.engine) ctx.old.tables ctx.old.cutoff (shown a.now).rows ((shown a.now).cols + (shown b.now).cols) }
+    requires serves { Serves (M.limits ctx.old.engine) ctx.old.cutoff (shown a.now).rows ((shown a.now).cols + (shown b.now).cols) }
     ensures solution { IfOk result (TellsSolution (shown a.now) (shown b.now)) }
     ensures engine { M.limits ctx.new.engine ≡ M.limits ctx.old.engine }
-    ensures tables { AreSameTables ctx.old.tables ctx.new.tables }
     ensures cutoff { ctx.new.cutoff ≡ ctx.old.cutoff }
 {
     let _rows = a.rows();
     let _b = b.cols();
     let both = augment(alloc, a, b)?;
-    let form = form_of(alloc, both, ctx)?;
+    let form = ReducedForm::of_matrix(alloc, both, ctx)?;
     let pivots = form.pivots.as_slice();
     if !all_below(pivots, a.cols()) {
         return Ok(Solution::NoSolution);
@@ -55,16 +54,15 @@ pub fn solve<M: AddMul>(
 pub fn invert<M: AddMul>(alloc: Global, a: &Win, ctx: &mut Ctx<M>) -> Result<Inverse, NoMemory>
     requires square { (shown a.now).cols ≡ (shown a.now).rows }
     requires few_cols { (shown a.now).cols + (shown a.now).cols ≤ 2 ^ 24 }
-    requires serves { Serves (M.limits ctx.old.engine) ctx.old.tables ctx.old.cutoff (shown a.now).rows ((shown a.now).cols + (shown a.now).cols) }
+    requires serves { Serves (M.limits ctx.old.engine) ctx.old.cutoff (shown a.now).rows ((shown a.now).cols + (shown a.now).cols) }
     ensures inverse { IfOk result (TellsInverse (shown a.now)) }
     ensures engine { M.limits ctx.new.engine ≡ M.limits ctx.old.engine }
-    ensures tables { AreSameTables ctx.old.tables ctx.new.tables }
     ensures cutoff { ctx.new.cutoff ≡ ctx.old.cutoff }
 {
     let n = a.cols();
     let one = Mzd::identity(alloc, n)?;
     let both = augment(alloc, a, &one.all())?;
-    let form = form_of(alloc, both, ctx)?;
+    let form = ReducedForm::of_matrix(alloc, both, ctx)?;
     let pivots = form.pivots.as_slice();
     if !are_first(pivots, n) {
         return Ok(Inverse::Singular);

@@ -1,8 +1,8 @@
-use Rattle.std.proofs.Common.{◌≡◌, ◌≤◌, ℕ, ◌∙◌, sym, subst, arith, take, length, length-take}
+use Rattle.std.proofs.Common.{◌≡◌, ◌≤◌, ℕ, ◌∙◌, sym, subst, arith, take, length-take}
 use Rattle.m4_model.specs.Matrix.{Matrix, IsMatrix}
-use Rattle.m4_model.specs.Rank.{IsRank}
+use Rattle.m4_model.specs.Rank.{ArePivots}
 use Rattle.m4_model.proofs.Gf2Lemmas.{gf2_laws}
-use Rattle.m4_model.proofs.RankLemmas.{rank_of_ple}
+use Rattle.m4_model.proofs.RankLemmas.{pivots_of_ple}
 use Rattle.m4_mzd.specs.Window.{content}
 use Rattle.m4_mzd.specs.Seen.{shown}
 use Rattle.m4_mzd.specs.Reach.{IsReached}
@@ -17,10 +17,8 @@ returns-clause-rank g c =
     let q = c.ple-rank.new.q in
     let front = length-take r q in
     let within = c.ple-rank.ensures.rank in
-    let long : length (take r q) ≡ r = omega (arith, front, within) in
-    subst (λ (A : Matrix). IsRank A r) same
-    (subst (λ (k : ℕ). IsRank (content c.all_mut-all.result.0) k) long
-    (rank_of_ple (content c.all_mut-all.result.0) _ (take r q) _ held.l held.e gf2_laws matrix held.factors))
+    let pivots = pivots_of_ple (content c.all_mut-all.result.0) _ (take r q) _ held.l held.e gf2_laws matrix held.factors in
+    (take r q, subst (λ (A : Matrix). ArePivots A (take r q)) same pivots, omega (arith, front, within))
 
 pub ple-rank-requires-clause-reached : goal.ple-rank-requires-clause-reached
 ple-rank-requires-clause-reached g c =

@@ -5,7 +5,8 @@ use Rattle.m4_model.specs.Shapes.{beside}
 use Rattle.m4_model.proofs.Gf2Lemmas.{gf2_laws}
 use Rattle.m4_mzd.specs.Seen.{shown}
 use Rattle.m4_solve.specs.Reduction.{IsReadOff}
-use Rattle.m4_solve.proofs.Solutions.{pivots_seen, rising_at, rank_at, singular_at, inverse_at}
+use Rattle.m4_solve.proofs.Ranks.{pivots_seen, rising_at, rank_at}
+use Rattle.m4_solve.proofs.Solutions.{singular_at, inverse_at}
 use Rattle.m4_solve.proofs.systems.invert.Goals as goal
 
 pub are_first-requires-clause-rising : goal.are_first-requires-clause-rising

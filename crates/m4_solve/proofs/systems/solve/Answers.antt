@@ -4,7 +4,8 @@ use Rattle.m4_model.specs.Field.{gf2}
 use Rattle.m4_model.proofs.Gf2Lemmas.{gf2_laws}
 use Rattle.m4_mzd.specs.Seen.{shown}
 use Rattle.m4_solve.specs.Reduction.{IsReadOff}
-use Rattle.m4_solve.proofs.Solutions.{pivots_seen, rising_at, no_solution_at, solution_at}
+use Rattle.m4_solve.proofs.Ranks.{pivots_seen, rising_at}
+use Rattle.m4_solve.proofs.Solutions.{no_solution_at, solution_at}
 use Rattle.m4_solve.proofs.systems.solve.Goals as goal
 
 pub all_below-requires : goal.all_below-requires

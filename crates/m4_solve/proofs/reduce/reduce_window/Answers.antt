@@ -9,7 +9,7 @@ use Rattle.m4_mzd.specs.Window.{Window, content}
 use Rattle.m4_ple.specs.Held.{HoldsPle}
 use Rattle.m4_ple.specs.Parts.{echelon_part}
 use Rattle.m4_ple.proofs.Echelons.{echelon_held}
-use Rattle.m4_solve.proofs.reduce.reduce.Goals as goal
+use Rattle.m4_solve.proofs.reduce.reduce_window.Goals as goal
 
 -- the echelon form that a PLE in place holds
 kept_form : (A W : Matrix) (p q : List ℕ) (held : HoldsPle A p q W) → HasShape A.field A.rows A.cols W → held.e ≡ echelon_part q W
