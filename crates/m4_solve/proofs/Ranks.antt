@@ -20,13 +20,10 @@ module _ {R M : Matrix} {q : List ℕ} (reduced : IsReducedAt R M q) where
   pub rising_at : IsRising q
   rising_at = subst IsRising reduced.at_pivots reduced.form.reduced.echelon.rising
 
-  pub columns_at : (s : ℕ) → s < length q → slice_index q s < R.cols
+  columns_at : (s : ℕ) → s < length q → slice_index q s < R.cols
   columns_at s inside =
       let low = reduced.form.reduced.echelon.columns s (subst (λ (q : List ℕ). s < length q) (sym reduced.at_pivots) inside) in
       subst (λ (q : List ℕ). slice_index q s < R.cols) reduced.at_pivots low
-
-  pub rows_at : length q ≤ R.rows
-  rows_at = subst (λ (q : List ℕ). length q ≤ R.rows) reduced.at_pivots reduced.form.reduced.echelon.within
 
   pub rank_at : length q ≤ M.rows
   rank_at =
@@ -147,7 +144,7 @@ pub others_count : (n : ℕ) (q g : List ℕ) → IsRising q → ((s : ℕ) → 
 others_count n q g rising below others =
     parted_count n (length q) (length g) q g (all_below q n rising below) (all_below g n others.rising others.below) others.apart others.rest
 
--- the basis of the kernel has a row for each column that is no pivot
+-- the rank and the rows of the basis of the kernel are all columns, whichever way the basis was made
 pub kernel_rows : (A K : Matrix) (r : ℕ) → IsRank A r → IsKernel K A → K.rows + r ≡ A.cols
 kernel_rows A K r rank kernel =
     let q = rank.0 in
