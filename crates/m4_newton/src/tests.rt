@@ -39,19 +39,38 @@ fn product(alloc: Global, field: Field, x: u32, y: u32) -> Result<u32, NoMemory>
     Ok(c.get(0, 0))
 }
 
+// The product of two matrices of one entry over the field of this degree and polynomial, if there is one with such elements.
+fn multiplied(alloc: Global, e: u32, poly: u32, x: u32, y: u32) -> Result<Option<u32>, NoMemory> {
+    match Field::new(e, poly) {
+        Ok(f) => {
+            let _degree = f.e();
+            let elements = 1 << f.e();
+            if x < elements && y < elements {
+                Ok(Some(product(alloc, f, x, y)?))
+            } else {
+                Ok(None)
+            }
+        }
+        Err(_) => Ok(None),
+    }
+}
+
+// A degree, its polynomial, two elements and their product.
+const PRODUCTS: [(u32, u32, u32, u32, u32); 5] = [
+    (2, 7, 2, 3, 1),
+    (4, 0x1f, 2, 8, 0xf),
+    (4, 0x13, 2, 8, 3),
+    (9, 0x203, 0x100, 2, 3),
+    (16, 0x1002b, 0x8000, 2, 0x2b),
+];
+
 #[test]
 fn matrices_of_one_entry_are_multiplied(rt: HostRuntime) -> Result<(), Fail> {
-    if let Ok(f) = Field::new(4, 0x1f) {
-        assert_eq!(rt; product(rt.alloc(), f, 2, 8)?, 0xf);
-    }
-    if let Ok(f) = Field::new(4, 0x13) {
-        assert_eq!(rt; product(rt.alloc(), f, 2, 8)?, 3);
-    }
-    if let Ok(f) = Field::new(9, 0x203) {
-        assert_eq!(rt; product(rt.alloc(), f, 0x100, 2)?, 3);
-    }
-    if let Ok(f) = Field::new(16, 0x1002b) {
-        assert_eq!(rt; product(rt.alloc(), f, 0x8000, 2)?, 0x2b);
+    for case in &PRODUCTS {
+        assert_eq!(rt;
+            multiplied(rt.alloc(), case.0, case.1, case.2, case.3)?,
+            Some(case.4)
+        );
     }
     Ok(())
 }
@@ -86,17 +105,24 @@ fn a_product_is_added_inside_a_matrix(rt: HostRuntime) -> Result<(), Fail> {
     Ok(())
 }
 
-#[test]
-fn an_engine_for_bits_multiplies_over_gf2(rt: HostRuntime) -> Result<(), Fail> {
-    let f = Field::gf2();
-    let a = one_entry(rt.alloc(), f, 1)?;
-    let b = one_entry(rt.alloc(), f, 1)?;
-    let mut c = one_entry(rt.alloc(), f, 0)?;
+// The product of two matrices of one entry over GF(2) by an engine for bits.
+fn multiplied_by_bits(alloc: Global, x: u32, y: u32) -> Result<u32, NoMemory>
+    requires first { x < 2 }
+    requires second { y < 2 }
+{
+    let a = one_entry(alloc, Field::gf2(), x)?;
+    let b = one_entry(alloc, Field::gf2(), y)?;
+    let mut c = one_entry(alloc, Field::gf2(), 0)?;
     let (mut all, home) = c.all_mut();
     let mut engine = OverBits { engine: Plain };
-    assert_eq!(rt; engine.reach().m, 1 << 24);
     engine.addmul(&mut all, &a.all(), &b.all());
     c.put_all(all, home);
-    assert_eq!(rt; c.get(0, 0), 1);
+    Ok(c.get(0, 0))
+}
+
+#[test]
+fn an_engine_for_bits_multiplies_over_gf2(rt: HostRuntime) -> Result<(), Fail> {
+    assert_eq!(rt; multiplied_by_bits(rt.alloc(), 1, 1)?, 1);
+    assert_eq!(rt; multiplied_by_bits(rt.alloc(), 1, 0)?, 0);
     Ok(())
 }

@@ -6,7 +6,7 @@ ghost use Rattle.m4_model.specs.Matrix.{Matrix};
 ghost use Rattle.m4_model.specs.Shapes.{cut, replace};
 ghost use Rattle.m4_mzd.specs.declared.rect.Rect.{Rect};
 ghost use Rattle.m4_mzd.specs.Rectangles.{IsInside};
-ghost use Rattle.m4_mzed.specs.EWindow.{content};
+ghost use Rattle.m4_mzed.specs.EWindow.{content, showing};
 ghost use Rattle.m4_mzed.specs.Taken.{IsAround, Fits};
 
 use super::Mzed;
@@ -21,6 +21,7 @@ impl Mzed {
         requires whole_words { rect.c0 * width self.old.field % 64 ≡ 0 }
         ensures content { content result.0 ≡ cut self.old rect.r0 rect.c0 rect.r1 rect.c1 }
         ensures around { IsAround result.1 result.0 rect self.old }
+        ensures whatever_it_shows { (B : Matrix) → IsAround result.1 (showing result.0 B) rect self.old }
         ensures no_rows_left { self.new.rows ≡ 0 }
         ensures no_cols_left { self.new.cols ≡ 0 }
     {

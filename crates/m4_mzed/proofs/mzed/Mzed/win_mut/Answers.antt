@@ -2,6 +2,7 @@ use Rattle.std.proofs.Common.{◌≡◌, ℕ, ◌-◌, ◌*◌, [], refl, sym, a
 use Rattle.m4_model.specs.Field.{Field, gf2}
 use Rattle.m4_model.specs.Matrix.{Matrix, IsMatrix}
 use Rattle.m4_mzd.specs.declared.mzd.around.Around.{Around}
+use Rattle.m4_mzed.specs.EWindow.{EWindow, showing}
 use Rattle.m4_mzed.specs.Packed.{elements}
 use Rattle.m4_mzed.specs.PackedIn.{IsPackedIn}
 use Rattle.m4_model.specs.Shapes.{cut}
@@ -68,3 +69,19 @@ returns-clause-around c =
     (wide F n P c.win_mut-bits.result.0 rect.r0 rect.c0 rect.r1 rect.c1 c.self.invariant c.rows-all.ensures.matrix c.rows-all.ensures.over_gf2 c.rows-part.ensures.shape i.in_rows i.in_cols i.in_order_across
     (c.win_mut-bits.ensures.content ∙ ap (λ k. cut P rect.r0 (rect.c0 * k) rect.r1 (rect.c1 * k)) c.width-width.ensures.width))
     c.self.invariant c.rows-all.ensures.matrix c.rows-all.ensures.over_gf2 c.win_mut-bits.ensures.whatever_it_shows)
+
+-- what lies around a window lies around it whatever it shows
+shown_around : (around : Around) (part : EWindow) (rect : Rect) (A B : Matrix) → IsAround around part rect A → IsAround around (showing part B) rect A
+shown_around around part rect A B is = record {
+  bits = is.bits;
+  shows = is.shows;
+  packed = is.packed;
+  matrix = is.matrix;
+  over = is.over;
+  field = is.field;
+  cols = is.cols;
+  is = is.is;
+}
+
+pub returns-clause-whatever_it_shows : goal.returns-clause-whatever_it_shows
+returns-clause-whatever_it_shows c = λ B. shown_around _ _ c.args.rect c.args.self.now B (returns-clause-around c)
