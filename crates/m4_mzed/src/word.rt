@@ -1,9 +1,8 @@
 //! The elements of a word, multiplied by one.
 
 ghost use Rattle.std.specs.Prelude.{◌≡◌, ℕ, ◌/◌, ◌^◌, ◌<◌, ◌==◌, ◌||◌, IsTrue};
-ghost use Rattle.m4_model.specs.Field.{mul};
+ghost use Rattle.m4_model.specs.Field.{mul, width};
 ghost use Rattle.m4_field.specs.Fields.{the_field};
-ghost use Rattle.m4_model.specs.Field.{width};
 ghost use Rattle.m4_mzed.specs.Words.{element, AreElements};
 
 use m4_field::Field;
@@ -30,7 +29,7 @@ pub(crate) fn ones(width_bits: u32) -> u64
 
 /// Multiplies each of the elements of the word by `x`.
 #[inline]
-pub fn multiple(f: &Field, word: u64, x: u32) -> u64
+pub(crate) fn multiple(f: &Field, word: u64, x: u32) -> u64
     requires elements { AreElements (the_field f.now) (width (the_field f.now)) word }
     requires element { x < 2 ^ (the_field f.now).degree }
     ensures { (k : ℕ) → k < 64 / width (the_field f.now) → element (width (the_field f.now)) k result ≡ mul (the_field f.now) (element (width (the_field f.now)) k word) x }
@@ -45,13 +44,18 @@ pub fn multiple(f: &Field, word: u64, x: u32) -> u64
     sum
 }
 
-/// Multiplies each of the elements of the word by `x`. `W` is the width of the field's elements.
+/// Multiplies each of the elements of the word by `x`. `W` is the width of the field's elements. As in the word, the bits of
+/// each place of the answer that an element doesn't use are zero.
+///
+/// For each bit of the elements, the digits there, spread by a mask, times one factor are added: a digit times a number that
+/// fits the place carries nothing into the next.
 #[inline]
 pub fn mul_word<const W: usize>(f: &Field, word: u64, x: u32) -> u64
     requires wide { W ≡ width (the_field f.now) }
     requires elements { AreElements (the_field f.now) W word }
     requires element { x < 2 ^ (the_field f.now).degree }
-    ensures { (k : ℕ) → k < 64 / W → element W k result ≡ mul (the_field f.now) (element W k word) x }
+    ensures products { (k : ℕ) → k < 64 / W → element W k result ≡ mul (the_field f.now) (element W k word) x }
+    ensures elements { AreElements (the_field f.now) W result }
 {
     multiple(f, word, x)
 }
