@@ -4,6 +4,8 @@
 mod join;
 mod part;
 mod sum;
+#[cfg(test)]
+mod tests;
 mod turn;
 
 pub use join::{eaugment, estack};
