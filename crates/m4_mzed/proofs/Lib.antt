@@ -7,6 +7,7 @@ pub mod IndexLemmas
 pub mod MultipleLemmas
 pub mod PairLemmas
 pub mod PartLemmas
+pub mod PartRows
 pub mod ProductLemmas
 pub mod PutLemmas
 pub mod RectLemmas

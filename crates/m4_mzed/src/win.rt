@@ -71,7 +71,7 @@ impl<'a> EWin<'a> {
 
     // The first bit of column `c`, or past the last column.
     #[inline]
-    fn first_bit(&self, c: u32) -> u32
+    pub(crate) fn first_bit(&self, c: u32) -> u32
         requires { c ≤ (e_shown self.now).cols }
         ensures { result ≡ c * width (e_shown self.now).field }
     {

@@ -17,6 +17,7 @@ mod pairs;
 mod parts;
 mod rows;
 mod see;
+mod shifted;
 
 /// A window for writing: a rectangle of a matrix's entries, whose first column is at the beginning of a word.
 ///
