@@ -1,19 +1,46 @@
-//! A few columns of the first factor, as many as all tables together take.
+//! Products by tables: as many columns of the first factor at a time as all tables together take.
 
-ghost use Rattle.std.specs.Prelude.{◌≡◌, ℕ, ◌+◌, ◌-◌, ◌*◌, ◌^◌, ◌<◌, ◌≤◌, length, min, slice_index};
-ghost use Rattle.std.specs.Int.{bit_at};
+ghost use Rattle.std.specs.Prelude.{◌≡◌, ◌+◌, ◌*◌, ◌<◌, ◌≤◌};
 ghost use Rattle.m4_model.specs.Additions.{additions};
-ghost use Rattle.m4_model.specs.Matrix.{at};
+ghost use Rattle.m4_model.specs.Matrix.{added, product};
 ghost use Rattle.m4_mzd.specs.Window.{content, showing};
 ghost use Rattle.m4_mzd.specs.Seen.{shown};
-ghost use Rattle.m4_mul.specs.Parts.{IsFilled, IsIndex, HasSizes, with_part};
+ghost use Rattle.m4_mul.specs.Parts.{IsFilled, HasSizes, with_part};
 
+use crate::index::index_of;
 use m4_gray::Tables;
 use m4_mzd::{Steps, Win, WinMut};
 use std::sync::ledger::Ledger;
 
+/// Adds the product, as many columns of `a` at a time as all tables take.
+pub(crate) fn add_groups<L: Ledger>(
+    tables: &mut Tables,
+    c: &mut WinMut,
+    a: &Win,
+    b: &Win,
+    steps: &mut Steps<L>,
+)
+    requires rows { (shown a.now).rows ≡ c.old.rows }
+    requires inner { (shown a.now).cols ≡ (shown b.now).rows }
+    requires cols { (shown b.now).cols ≡ c.old.cols }
+    requires reached { c.old.cols ≤ tables.old.entries.cols }
+    ensures sum { c.new ≡ showing c.old (added (content c.old) (product (shown a.now) (shown b.now))) }
+    ensures sizes { HasSizes tables.new tables.old }
+    ensures ticks { steps.new ≡ steps.old + additions c.old.rows (shown a.now).cols tables.old.k }
+{
+    let _rows = c.rows();
+    let most = tables.k() * tables.count();
+    let end = b.rows();
+    let mut first = 0;
+    while first < end {
+        let width = most.min(end - first);
+        add_group(tables, c, a, b, first, width, steps);
+        first += width;
+    }
+}
+
 /// Adds the part of the product that the `width` columns of `a` from the first on make, no more than all tables take.
-pub(crate) fn add_group<L: Ledger>(
+fn add_group<L: Ledger>(
     tables: &mut Tables,
     c: &mut WinMut,
     a: &Win,
@@ -137,23 +164,4 @@ fn add_entries<const T: usize, L: Ledger>(
         let index = index_of::<T>(a, i, first, width, k);
         tables.combine(c, i, &index, steps);
     }
-}
-
-/// Which entry of each slot stands for row `i` of `a`: the bits of the row in the columns of the slot.
-#[inline(always)]
-fn index_of<const T: usize>(a: &Win, i: u32, first: u32, width: u32, k: u32) -> [u32; T]
-    requires small_k { k ≤ 8 }
-    requires few { T ≤ 8 }
-    requires no_more { T * k < width + k }
-    requires in_rows { i < (shown a.now).rows }
-    requires in_cols { first + width ≤ (shown a.now).cols }
-    ensures long { length result ≡ T }
-    ensures index { IsIndex result (shown a.now) i first width k T }
-{
-    let mut index = [0; T];
-    for slot in 0..T {
-        let begin = slot as u32 * k;
-        index[slot] = a.bits(i, first + begin, k.min(width - begin));
-    }
-    index
 }

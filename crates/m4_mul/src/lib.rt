@@ -1,7 +1,10 @@
 //! Engines that multiply over GF(2).
 #![tactic(auto)]
 
+mod blocks;
 mod group;
+mod index;
+mod packed;
 mod plain;
 mod table;
 #[cfg(test)]

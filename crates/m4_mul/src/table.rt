@@ -6,7 +6,9 @@ ghost use Rattle.m4_model.specs.Matrix.{added, product};
 ghost use Rattle.m4_mzd.specs.Window.{content, showing};
 ghost use Rattle.m4_mzd.specs.Seen.{shown};
 
-use crate::group::add_group;
+use crate::blocks::add_in_blocks;
+use crate::group::add_groups;
+use crate::packed::{Blocks, Packed};
 use m4_gray::Tables;
 use m4_model::NoMemory;
 use m4_mzd::{AddMul, MOST_SIDE, Shape, Steps, Win, WinMut};
@@ -14,13 +16,25 @@ use std::alloc::Global;
 use std::marker::{Brand, Model};
 use std::sync::ledger::{Blank, Ledger};
 
+/// The most columns whose tables the second-level cache holds: past them a product goes block by block.
+const WIDE: u32 = 2048;
+
+/// The most columns of the first factor for which a block isn't worth its copies.
+const DEEP: u32 = 512;
+
 /// The engine that takes `k` columns of the first factor at a time, for `k` from 1 to 8: all sums of the `k` rows of the
 /// second stand in a table, and each row of the window gets one of them. Of up to eight tables an entry each is added in
 /// one pass: Albrecht, Bard and Hart, Efficient multiplication of dense matrices over GF(2), ACM Transactions on
 /// Mathematical Software 37, 2010.
+///
+/// Products with more than 2,048 columns go block by block, as there: a block of the window and a panel of the first factor
+/// are copied to room of the engine's own, where their rows lie side by side, and only the tables of a block's columns are
+/// in use at a time. An engine for fewer columns reserves no such room. `addmul_counted` takes whole rows at any size, so
+/// that each sum is counted once.
 #[derive(Drop)]
 pub struct Table {
     tables: Tables,
+    packed: Option<Packed>,
 }
 
 impl Model for Table {
@@ -41,9 +55,9 @@ impl Table {
         requires few_tables { tables ≤ 8 }
         ensures { IfOk result (λ t. t ≡ record { cols = cols; k = k; tables = tables }) }
     {
-        Ok(Table {
-            tables: Tables::new(alloc, cols, k, tables)?,
-        })
+        let packed = packed_for(alloc, cols, k, tables)?;
+        let tables = Tables::new(alloc, cols, k, tables)?;
+        Ok(Table { tables, packed })
     }
 
     /// Adds `a` times `b` to `c`, and counts the additions of rows.
@@ -62,15 +76,7 @@ impl Table {
         ensures same { self.new ≡ self.old }
         ensures ticks { steps.new ≡ steps.old + additions c.old.rows (shown a.now).cols self.old.k }
     {
-        let _rows = c.rows();
-        let most = self.tables.k() * self.tables.count();
-        let end = b.rows();
-        let mut first = 0;
-        while first < end {
-            let width = most.min(end - first);
-            add_group(&mut self.tables, c, a, b, first, width, steps);
-            first += width;
-        }
+        add_groups(&mut self.tables, c, a, b, steps);
     }
 }
 
@@ -90,6 +96,21 @@ impl AddMul for Table {
     }
 }
 
+/// The room for products block by block, where an engine for so many columns has use for it.
+fn packed_for(alloc: Global, cols: u32, k: u32, tables: u32) -> Result<Option<Packed>, NoMemory>
+    requires few_cols { cols ≤ MOST_SIDE }
+    requires some_k { 1 ≤ k }
+    requires small_k { k ≤ 8 }
+    requires some_tables { 1 ≤ tables }
+    requires few_tables { tables ≤ 8 }
+{
+    if cols <= WIDE {
+        return Ok(None);
+    }
+    let packed = Packed::new(alloc, Blocks::for_cols(cols), k, tables)?;
+    Ok(Some(packed))
+}
+
 /// Adds the product with a count of additions that no one reads.
 fn add_product<L: Ledger>(table: &mut Table, c: &mut WinMut, a: &Win, b: &Win, blank: Blank)
     requires name { blank.name ≡ L.name }
@@ -103,5 +124,9 @@ fn add_product<L: Ledger>(table: &mut Table, c: &mut WinMut, a: &Win, b: &Win, b
     ensures same { table.new ≡ table.old }
 {
     let mut steps = Steps::<L>::new(blank);
-    table.addmul_counted(c, a, b, &mut steps);
+    let in_blocks = c.cols() > WIDE && a.cols() > DEEP;
+    match &mut table.packed {
+        Some(packed) if in_blocks => add_in_blocks(packed, c, a, b, &mut steps),
+        _ => add_groups(&mut table.tables, c, a, b, &mut steps),
+    }
 }

@@ -6,12 +6,12 @@ use Rattle.m4_model.specs.Additions.{additions}
 use Rattle.m4_mul.specs.Parts.{with_part}
 use Rattle.m4_mul.proofs.AdditionsLemmas.{additions-group, additions-none, whole-next}
 use Rattle.m4_mul.proofs.PartLemmas.{with_part-none, with_part-more, with_part-all}
-use Rattle.m4_mul.proofs.table.Table.addmul_counted.Goals as goal
+use Rattle.m4_mul.proofs.group.add_groups.Goals as goal
 
 pub loop-first-init : goal.loop-first-init
 loop-first-init g c =
     let W = c.args.c.now in
-    let k = c.self.inside.tables.k in
+    let k = c.args.tables.now.k in
     let some : 0 < k = omega (arith, c.k.ensures.shape.some_bits) in
     record {
       sum = ap (showing W) (with_part-none (content W) (shown c.args.a.now) (shown c.args.b.now) 0 refl c.rows-rows.ensures.shape.matrix);
@@ -26,8 +26,8 @@ loop-first-preserved g c =
     let W = c.args.c.now in
     let A = shown c.args.a.now in
     let B = shown c.args.b.now in
-    let t = c.self.inside.tables in
-    let now = c.loop-first.self-inside.tables in
+    let t = c.args.tables.now in
+    let now = c.loop-first.tables in
     let h = c.loop-first.invariant in
     let first = c.loop-first.first in
     let width = c.min-width.result in

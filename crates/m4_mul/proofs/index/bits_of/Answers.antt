@@ -3,7 +3,7 @@ use Rattle.std.proofs.lemmas.List.{length-set}
 use Rattle.m4_mzd.specs.Seen.{shown}
 use Rattle.m4_mul.specs.Parts.{slot_bits}
 use Rattle.m4_mul.proofs.GroupLemmas.{index-more}
-use Rattle.m4_mul.proofs.group.index_of.Goals as goal
+use Rattle.m4_mul.proofs.index.bits_of.Goals as goal
 
 pub loop-slot-preserved : goal.loop-slot-preserved
 loop-slot-preserved g c =
