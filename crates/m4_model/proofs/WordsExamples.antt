@@ -1,44 +1,48 @@
 -- Words that are a job, and words that are none, with the number of the first that is refused.
-use Rattle.std.proofs.Common.{◌≡◌, ℕ, List, [], ◌∷◌, refl, Result, Ok, Err, codes}
+use Rattle.std.proofs.Common.{◌≡◌, ℕ, List, [], ◌∷◌, refl, Option, Some, None, Result, Ok, Err, codes}
 use Rattle.std.specs.Fmt.{digits}
-use Rattle.m4_model.specs.Texts.{TextForm, Headed, Bare, Jcf}
-use Rattle.m4_model.specs.Words.{Algo, Plain, Table, Command, Mul, Addmul, Sub, Convert, Ple, Pluq, Job, job, understand}
+use Rattle.m4_model.specs.declared.choices.Algo.TheVariants.{Plain}
+use Rattle.m4_model.specs.declared.choices.Form.{Form}
+use Rattle.m4_model.specs.declared.choices.Form.TheVariants.{Headed, Bare, Jcf}
+use Rattle.m4_model.specs.declared.command.Command.{Command}
+use Rattle.m4_model.specs.declared.command.Command.TheVariants.{Mul, Addmul, Sub, Convert, Ple, Pluq}
+use Rattle.m4_model.specs.Words.{Job, job, understand}
 
 -- the job of a command on these files, with these forms
-asks : Command → List (List ℕ) → TextForm → TextForm → Result Job ℕ
-asks command files from into = Ok (record { command = command; files = files; choices = record { algo = Table; k = 6; tables = 4; from = from; into = into } })
+asks : Command → List (List ℕ) → Option Form → Option Form → Result Job ℕ
+asks command files from into = Ok (record { command = command; files = files; choices = record { algo = None; k = None; tables = None; from = from; into = into } })
 
-product_of_two : job (codes "mul" ∷ codes "A" ∷ codes "B" ∷ []) ≡ asks Mul (codes "A" ∷ codes "B" ∷ []) Headed Headed
+product_of_two : job (codes "mul" ∷ codes "A" ∷ codes "B" ∷ []) ≡ asks Mul (codes "A" ∷ codes "B" ∷ []) None None
 unfolding job understand digits asks
 product_of_two = refl
 
-options_among_operands : job (codes "mul" ∷ codes "--in=bare" ∷ codes "A" ∷ codes "B" ∷ codes "--out=jcf" ∷ []) ≡ asks Mul (codes "A" ∷ codes "B" ∷ []) Bare Jcf
+options_among_operands : job (codes "mul" ∷ codes "--in=bare" ∷ codes "A" ∷ codes "B" ∷ codes "--out=jcf" ∷ []) ≡ asks Mul (codes "A" ∷ codes "B" ∷ []) (Some Bare) (Some Jcf)
 unfolding job understand digits asks
 options_among_operands = refl
 
 numbers_of_a_place : job (codes "addmul" ∷ codes "C" ∷ codes "1" ∷ codes "--out=text" ∷ codes "64" ∷ codes "A" ∷ codes "B" ∷ [])
-    ≡ asks (Addmul 1 64) (codes "C" ∷ codes "A" ∷ codes "B" ∷ []) Headed Headed
+    ≡ asks (Addmul 1 64) (codes "C" ∷ codes "A" ∷ codes "B" ∷ []) None (Some Headed)
 unfolding job understand digits asks
 numbers_of_a_place = refl
 
-a_name_with_equals_sign : job (codes "convert" ∷ codes "-in=a=b" ∷ []) ≡ asks Convert (codes "-in=a=b" ∷ []) Headed Headed
+a_name_with_equals_sign : job (codes "convert" ∷ codes "-in=a=b" ∷ []) ≡ asks Convert (codes "-in=a=b" ∷ []) None None
 unfolding job understand digits asks
 a_name_with_equals_sign = refl
 
-corners_of_a_part : job (codes "sub" ∷ codes "A" ∷ codes "0" ∷ codes "1" ∷ codes "2" ∷ codes "3" ∷ []) ≡ asks (Sub 0 1 2 3) (codes "A" ∷ []) Headed Headed
+corners_of_a_part : job (codes "sub" ∷ codes "A" ∷ codes "0" ∷ codes "1" ∷ codes "2" ∷ codes "3" ∷ []) ≡ asks (Sub 0 1 2 3) (codes "A" ∷ []) None None
 unfolding job understand digits asks
 corners_of_a_part = refl
 
-factors_of_one : job (codes "ple" ∷ codes "A" ∷ []) ≡ asks Ple (codes "A" ∷ []) Headed Headed
+factors_of_one : job (codes "ple" ∷ codes "A" ∷ []) ≡ asks Ple (codes "A" ∷ []) None None
 unfolding job understand digits asks
 factors_of_one = refl
 
-factors_with_an_option : job (codes "pluq" ∷ codes "A" ∷ codes "--out=bare" ∷ []) ≡ asks Pluq (codes "A" ∷ []) Headed Bare
+factors_with_an_option : job (codes "pluq" ∷ codes "A" ∷ codes "--out=bare" ∷ []) ≡ asks Pluq (codes "A" ∷ []) None (Some Bare)
 unfolding job understand digits asks
 factors_with_an_option = refl
 
 options_of_products : job (codes "mul" ∷ codes "A" ∷ codes "--algo=plain" ∷ codes "B" ∷ codes "--k=8" ∷ codes "--tables=1" ∷ [])
-    ≡ Ok (record { command = Mul; files = codes "A" ∷ codes "B" ∷ []; choices = record { algo = Plain; k = 8; tables = 1; from = Headed; into = Headed } })
+    ≡ Ok (record { command = Mul; files = codes "A" ∷ codes "B" ∷ []; choices = record { algo = Some Plain; k = Some 8; tables = Some 1; from = None; into = None } })
 unfolding job understand digits
 options_of_products = refl
 

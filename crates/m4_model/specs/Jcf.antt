@@ -113,7 +113,7 @@ pub record IsFirstRefused (words : List Token) (token : Token) : Type 0 where
 
 -- The numbers of a header are past a limit.
 abbrev pub PassesLimit : List Token → Type 0
-PassesLimit words = (m n : ℕ) × (rest : List Token) × HasJcfHeader words m n rest × (IsWithinLimits m n → ⊥)
+PassesLimit words = (m n : ℕ) × (rest : List Token) × HasJcfHeader words m n rest × (IsWithinLimits 1 m n → ⊥)
 
 -- Some entry stands in row i and column j, both counted from 0.
 abbrev pub HasEntry : List Entry → ℕ → ℕ → Type 0

@@ -1,13 +1,17 @@
 -- What a run of the program has to answer: its status and its text, from its words and the files at hand.
-use Rattle.std.specs.Prelude.{◌≡◌, ℕ, ◌+◌, ◌%◌, ◌≤◌, ◌⊎◌, List, [], ◌∷◌, ◌++◌, length, Option, Some, None, option_map, flat_map, find, bytes_eq, Ok, Err, codes, decimal}
+use Rattle.std.specs.Prelude.{◌≡◌, ℕ, ◌+◌, ◌-◌, ◌*◌, ◌%◌, ◌≤◌, ◌⊎◌, List, [], ◌∷◌, ◌++◌, length, Option, Some, None, option_map, flat_map, find, bytes_eq, Ok, Err, codes, decimal}
+use Rattle.m4_model.specs.Field.{width}
 use Rattle.m4_model.specs.Matrix.{Matrix, added, product}
 use Rattle.m4_model.specs.Shapes.{transposed, above, beside, cut, replace}
 use Rattle.m4_model.specs.Rank.{IsRank}
 use Rattle.m4_model.specs.Forms.{IsReduced, IsInverse, Singular, IsSolution, NoSolution, IsKernel}
 use Rattle.m4_model.specs.Factors.{IsPle, IsPluq}
 use Rattle.m4_model.specs.Text.{Fault, BadAt, PastLimit, IsWithinLimits, text}
-use Rattle.m4_model.specs.Texts.{TextForm, can_hold, text_as, ReadsAs, RefusalAs}
-use Rattle.m4_model.specs.Words.{Command, Mul, Addmul, Add, Transpose, Stack, Augment, Sub, Convert, Rank, Echelon, Inverse, Solve, Kernel, Ple, Pluq, Job, job}
+use Rattle.m4_model.specs.Texts.{can_hold, text_as, ReadsAs, RefusalAs}
+use Rattle.m4_model.specs.Words.{Job, job, form_of_files, form_of_answer}
+use Rattle.m4_model.specs.declared.choices.Form.{Form}
+use Rattle.m4_model.specs.declared.command.Command.{Command}
+use Rattle.m4_model.specs.declared.command.Command.TheVariants.{Mul, Addmul, Add, Transpose, Stack, Augment, Sub, Convert, Rank, Echelon, Inverse, Solve, Kernel, Ple, Pluq}
 use Rattle.m4_model.specs.declared.status.Status.{Status}
 use Rattle.m4_model.specs.declared.status.Status.TheVariants.{Done, No, Words, Text, Shape, Limit, Read, Write, Memory}
 
@@ -20,14 +24,14 @@ abbrev pub bytes_of : Stock → List ℕ → Option (List ℕ)
 bytes_of stock name = option_map (λ file. file.1) (find (λ file. bytes_eq file.0 name) stock)
 
 -- Each file is there, and is read in this form as a matrix.
-abbrev pub Accepted : Stock → TextForm → List (List ℕ) → List Matrix → Type 0
+abbrev pub Accepted : Stock → Form → List (List ℕ) → List Matrix → Type 0
 Accepted stock form [] [] = Unit {0}
 Accepted stock form (name ∷ names) (M ∷ Ms) = (bytes : List ℕ) × (bytes_of stock name ≡ Some bytes) × ReadsAs form bytes M × Accepted stock form names Ms
 Accepted stock form [] (M ∷ Ms) = ⊥
 Accepted stock form (name ∷ names) [] = ⊥
 
 -- The operand of this number, counted from 1, is the first file that isn't accepted. It is there, and is refused.
-pub record FirstRefused (stock : Stock) (form : TextForm) (names : List (List ℕ)) (operand : ℕ) (fault : Fault) : Type 0 where
+pub record FirstRefused (stock : Stock) (form : Form) (names : List (List ℕ)) (operand : ℕ) (fault : Fault) : Type 0 where
   pub before : List (List ℕ)
   pub name : List ℕ
   pub after : List (List ℕ)
@@ -40,7 +44,7 @@ pub record FirstRefused (stock : Stock) (form : TextForm) (names : List (List �
   pub refused : RefusalAs form bytes fault
 
 -- The first file that isn't accepted isn't there.
-pub record FirstMissing (stock : Stock) (form : TextForm) (names : List (List ℕ)) : Type 0 where
+pub record FirstMissing (stock : Stock) (form : Form) (names : List (List ℕ)) : Type 0 where
   pub before : List (List ℕ)
   pub name : List ℕ
   pub after : List (List ℕ)
@@ -51,7 +55,7 @@ pub record FirstMissing (stock : Stock) (form : TextForm) (names : List (List �
 
 -- A rectangle of so many rows and columns at this place of C begins at a word's first column, and lies within C.
 pub record HasRoom (C : Matrix) (row col rows cols : ℕ) : Type 0 where
-  pub aligned : col % 64 ≡ 0
+  pub aligned : col * width C.field % 64 ≡ 0
   pub within_rows : row + rows ≤ C.rows
   pub within_cols : col + cols ≤ C.cols
 
@@ -81,18 +85,23 @@ Fits Ple (A ∷ []) = Unit {0}
 Fits Pluq (A ∷ []) = Unit {0}
 Fits command other = ⊥
 
--- The shape of the answer is within the limits. An answer no larger than an operand always is. The shape of a solution
--- counts also where there is none, and that of the factor L beside the other factor, which is as large as the operand.
+-- The shape of the answer is within the limits, for a command whose answer's shape is known from the operands' shapes. An
+-- answer no larger than an operand always is. The shape of a solution counts also where there is none, and that of the
+-- factor L beside the other factor, which is as large as the operand.
+abbrev pub InKnownBounds : Command → List Matrix → Type 0
+InKnownBounds Mul (A ∷ B ∷ []) = IsWithinLimits (width A.field) A.rows B.cols
+InKnownBounds Transpose (A ∷ []) = IsWithinLimits (width A.field) A.cols A.rows
+InKnownBounds Stack (A ∷ B ∷ []) = IsWithinLimits (width A.field) (A.rows + B.rows) A.cols
+InKnownBounds Augment (A ∷ B ∷ []) = IsWithinLimits (width A.field) A.rows (A.cols + B.cols)
+InKnownBounds Solve (A ∷ B ∷ []) = IsWithinLimits (width A.field) A.cols B.cols
+InKnownBounds Ple (A ∷ []) = IsWithinLimits (width A.field) A.rows A.rows
+InKnownBounds Pluq (A ∷ []) = IsWithinLimits (width A.field) A.rows A.rows
+InKnownBounds command other = Unit {0}
+
+-- The shape of the answer is within the limits. A kernel's has a row for each free column, as many as the rank leaves.
 abbrev pub InBounds : Command → List Matrix → Type 0
-InBounds Mul (A ∷ B ∷ []) = IsWithinLimits A.rows B.cols
-InBounds Transpose (A ∷ []) = IsWithinLimits A.cols A.rows
-InBounds Stack (A ∷ B ∷ []) = IsWithinLimits (A.rows + B.rows) A.cols
-InBounds Augment (A ∷ B ∷ []) = IsWithinLimits A.rows (A.cols + B.cols)
-InBounds Solve (A ∷ B ∷ []) = IsWithinLimits A.cols B.cols
-InBounds Kernel (A ∷ []) = (K : Matrix) × IsKernel K A × IsWithinLimits K.rows K.cols
-InBounds Ple (A ∷ []) = IsWithinLimits A.rows A.rows
-InBounds Pluq (A ∷ []) = IsWithinLimits A.rows A.rows
-InBounds command other = Unit {0}
+InBounds Kernel (A ∷ []) = (r : ℕ) × IsRank A r × IsWithinLimits (width A.field) (A.cols - r) A.cols
+InBounds command matrices = InKnownBounds command matrices
 
 -- What a command answers: a matrix, some lines of text, or that there is no answer, with the line that says so.
 pub data Answer : Type 0 where
@@ -185,13 +194,13 @@ status_of (Lines lines) = Done
 status_of (NoAnswer line) = No
 
 -- The form can hold the answer. Only a matrix is written in a form.
-abbrev pub can_hold_answer : TextForm → Answer → Type 0
+abbrev pub can_hold_answer : Form → Answer → Type 0
 can_hold_answer form (OneMatrix R) = can_hold form R
 can_hold_answer form (Lines lines) = Unit {0}
 can_hold_answer form (NoAnswer line) = Unit {0}
 
 -- The text of an answer.
-abbrev pub text_of_answer : TextForm → Answer → List ℕ
+abbrev pub text_of_answer : Form → Answer → List ℕ
 text_of_answer form (OneMatrix R) = text_as form R
 text_of_answer form (Lines lines) = lines
 text_of_answer form (NoAnswer line) = line
@@ -205,19 +214,19 @@ pub record HasAnswer (command : Command) (matrices : List Matrix) (answer : Answ
 -- The words ask for this job, and its operands are all accepted, as these matrices.
 pub record Operands (words : List (List ℕ)) (stock : Stock) (asked : Job) (matrices : List Matrix) : Type 0 where
   pub understood : job words ≡ Ok asked
-  pub accepted : Accepted stock asked.choices.from asked.files matrices
+  pub accepted : Accepted stock (form_of_files asked.choices) asked.files matrices
 
 -- The words ask for a job, of which this operand is the first that isn't accepted.
 pub record RefusedOperand (words : List (List ℕ)) (stock : Stock) (operand : ℕ) (fault : Fault) : Type 0 where
   pub asked : Job
   pub understood : job words ≡ Ok asked
-  pub refused : FirstRefused stock asked.choices.from asked.files operand fault
+  pub refused : FirstRefused stock (form_of_files asked.choices) asked.files operand fault
 
 -- The words ask for a job, of which the first operand that isn't accepted isn't there.
 pub record MissingOperand (words : List (List ℕ)) (stock : Stock) : Type 0 where
   pub asked : Job
   pub understood : job words ≡ Ok asked
-  pub missing : FirstMissing stock asked.choices.from asked.files
+  pub missing : FirstMissing stock (form_of_files asked.choices) asked.files
 
 -- The shapes don't fit.
 pub record IsMisfit (words : List (List ℕ)) (stock : Stock) : Type 0 where
@@ -241,7 +250,7 @@ pub record IsUnheld (words : List (List ℕ)) (stock : Stock) : Type 0 where
   pub answer : Answer
   pub operands : Operands words stock asked matrices
   pub answers : HasAnswer asked.command matrices answer
-  pub unheld : can_hold_answer asked.choices.into answer → ⊥
+  pub unheld : can_hold_answer (form_of_answer asked.choices) answer → ⊥
 
 -- The answer has this status, the form of answers can hold it, and this is its text.
 pub record IsWritten (words : List (List ℕ)) (stock : Stock) (status : Status) (written : List ℕ) : Type 0 where
@@ -250,9 +259,9 @@ pub record IsWritten (words : List (List ℕ)) (stock : Stock) (status : Status)
   pub answer : Answer
   pub operands : Operands words stock asked matrices
   pub answers : HasAnswer asked.command matrices answer
-  pub held : can_hold_answer asked.choices.into answer
+  pub held : can_hold_answer (form_of_answer asked.choices) answer
   pub ends : status_of answer ≡ status
-  pub text : written ≡ text_of_answer asked.choices.into answer
+  pub text : written ≡ text_of_answer (form_of_answer asked.choices) answer
 
 -- The status and the text that these words have over these files. A job that comes to a file that isn't there has
 -- none, nor has a read or a write that fails, nor want of memory.

@@ -19,21 +19,21 @@ text M = header M.rows M.cols ++ flat_map line M.entries
 abbrev pub IsHeaderNumber : ℕ → Type 0
 IsHeaderNumber n = n < 10 ^ 9
 
--- How many words of 64 bits a row of n columns takes.
+-- How many words of 64 bits a row of n bits takes.
 abbrev pub words_per_row : ℕ → ℕ
 words_per_row n = (n + 63) / 64
 
--- The limits on a file's or a result's matrix over GF(2).
-pub record IsWithinLimits (m n : ℕ) : Type 0 where
+-- The limits on a file's or a result's m x n matrix whose entries take so many bits.
+pub record IsWithinLimits (bits m n : ℕ) : Type 0 where
   pub rows : m ≤ 65536
   pub cols : n ≤ 65536
-  pub words : m * words_per_row n ≤ 2 ^ 22
+  pub words : m * words_per_row (n * bits) ≤ 2 ^ 22
 
 -- A matrix over GF(2) within the limits.
 pub record InLimits (M : Matrix) : Type 0 where
   pub matrix : IsMatrix M
   pub over_gf2 : M.field ≡ gf2
-  pub limits : IsWithinLimits M.rows M.cols
+  pub limits : IsWithinLimits 1 M.rows M.cols
 
 -- The bytes are read as M: they are its text.
 pub record Reads (bytes : List ℕ) (M : Matrix) : Type 0 where
@@ -75,11 +75,11 @@ pub record IsBadHeader (bytes : List ℕ) (place : ℕ) : Type 0 where
 -- The header is within the limits, and the bytes go wrong behind it: they are no text of a matrix of its shape.
 pub record IsBadBody (bytes : List ℕ) (place m n : ℕ) : Type 0 where
   pub begins : HasHeader bytes m n
-  pub limits : IsWithinLimits m n
+  pub limits : IsWithinLimits 1 m n
   pub none : IsTextOf m n bytes → ⊥
   pub longest : IsLongest (IsTextOf m n) bytes place
 
 -- The bytes are refused, with this fault.
 abbrev pub Refusal : List ℕ → Fault → Type 0
 Refusal bytes (BadAt place) = IsBadHeader bytes place ⊎ ((m n : ℕ) × IsBadBody bytes place m n)
-Refusal bytes PastLimit = (m n : ℕ) × HasHeader bytes m n × (IsWithinLimits m n → ⊥)
+Refusal bytes PastLimit = (m n : ℕ) × HasHeader bytes m n × (IsWithinLimits 1 m n → ⊥)

@@ -4,6 +4,8 @@
 //! speaks of machine words, masks or loops. `docs/DEFINITIONS.md` says each one in words.
 #![tactic(auto)]
 
+mod choices;
+mod command;
 mod factor_laws;
 mod field_laws;
 mod form_laws;
@@ -11,6 +13,8 @@ mod no_memory;
 mod ring_laws;
 mod status;
 
+pub use choices::{Algo, Choices, Form};
+pub use command::{Command, Kind};
 pub use factor_laws::{law_ple, law_ple_step};
 pub use field_laws::law_field;
 pub use form_laws::{law_inverse, law_kernel, law_reduced, law_solution};

@@ -8,7 +8,7 @@ use Rattle.m4_model.specs.Field.{gf2}
 use Rattle.m4_model.specs.Matrix.{Matrix, zero_matrix, table}
 use Rattle.m4_model.proofs.FieldLemmas.{gf2_field}
 use Rattle.m4_model.specs.Bare.{ReadsBare, IsBareFile, IsBareInLimits, IsBadBare, IsLargeBare, RefusalBare}
-use Rattle.m4_model.specs.Texts.TextForm.{Bare}
+use Rattle.m4_model.specs.declared.choices.Form.TheVariants.{Bare}
 use Rattle.m4_model.proofs.MatrixLemmas.{IsMatrix-matrix_of}
 use Rattle.m4_text.specs.Refused.{IsRefusalIn}
 use Rattle.std.specs.Option.{is_some}
@@ -101,18 +101,18 @@ file_body : (w : List ℕ) → IsBareFile w → (m n : ℕ) × (m ≡ 0 → n �
 file_body w (M, matrix, field, held, e) =
     (M.rows, M.cols, held, body_of_bare M.rows M.cols w (M, matrix, field, refl, refl, e))
 
-bare_in_limits : (m n : ℕ) (w : List ℕ) → (m ≡ 0 → n ≡ 0) → IsWithinLimits m n → IsBody m n w → IsBareInLimits w
+bare_in_limits : (m n : ℕ) (w : List ℕ) → (m ≡ 0 → n ≡ 0) → IsWithinLimits 1 m n → IsBody m n w → IsBareInLimits w
 bare_in_limits m n w held limits body =
     let (M, matrix, field, many, wide, e) = bare_of_body m n w body in (
       M,
       record {
-        accepted = record { matrix = matrix; over_gf2 = field; limits = subst₂ IsWithinLimits (sym many) (sym wide) limits };
+        accepted = record { matrix = matrix; over_gf2 = field; limits = subst₂ (IsWithinLimits 1) (sym many) (sym wide) limits };
         held = λ none. wide ∙ held (sym many ∙ none);
         spelled = e;
       },
     )
 
-limits_body : (w : List ℕ) → IsBareInLimits w → (m n : ℕ) × IsWithinLimits m n × IsBody m n w
+limits_body : (w : List ℕ) → IsBareInLimits w → (m n : ℕ) × IsWithinLimits 1 m n × IsBody m n w
 limits_body w (M, reads) =
     (M.rows, M.cols, reads.accepted.limits, body_of_bare M.rows M.cols w (M, reads.accepted.matrix, reads.accepted.over_gf2, refl, refl, reads.spelled))
 
@@ -128,7 +128,7 @@ module _ (bytes : List ℕ) (k : ℕ) (some : 0 < length bytes) (within : k ≤ 
   digits_front j below =
       let front : j < k = omega (arith, length-take k bytes) in rw (get_or-take k bytes j 0 front) (digits j front)
 
-  line_limits : IsWithinLimits 1 k
+  line_limits : IsWithinLimits 1 1 k
   line_limits = record { rows = omega arith; cols = few; words = omega arith }
 
   one_line : Begins (IsBody 1 k) (take k bytes)
@@ -178,10 +178,10 @@ module _ (bytes : List ℕ) (most : ℕ) (is : most ≡ 65536) (inside : most < 
       let (rest, line) = begins_line k (take k bytes) (omega (arith, length-take k bytes)) (front_digits k few) in
       (rest, (take k bytes ++ rest, [], line, refl, sym (append-nil _)))
 
-  most_limits : IsWithinLimits 1 most
+  most_limits : IsWithinLimits 1 1 most
   most_limits = record { rows = omega arith; cols = omega arith; words = omega arith }
 
-  no_wider : (m n k : ℕ) → most < k → k ≤ length bytes → IsWithinLimits m n → Begins (IsBody m n) (take k bytes) → ⊥
+  no_wider : (m n k : ℕ) → most < k → k ≤ length bytes → IsWithinLimits 1 m n → Begins (IsBody m n) (take k bytes) → ⊥
   no_wider m n k more within limits goes =
       let found = row_of_front m n bytes k (omega arith) within goes in
       let narrow : n ≤ most = omega (arith, limits.cols) in
@@ -198,7 +198,7 @@ module _ (bytes : List ℕ) (most : ℕ) (is : most ≡ 65536) (inside : most < 
   }
 
 -- behind a first line that has ended, lines of m rows
-module _ (bytes : List ℕ) (m n : ℕ) (first : HasLine bytes n) (some : 0 < m) (limits : IsWithinLimits m n) where
+module _ (bytes : List ℕ) (m n : ℕ) (first : HasLine bytes n) (some : 0 < m) (limits : IsWithinLimits 1 m n) where
   -- front of the lines
   whole_line : Begins (IsBody 1 n) (take (n + 1) bytes)
   unfolding IsBody
@@ -296,12 +296,12 @@ module _ (bytes : List ℕ) (m n : ℕ) (first : HasLine bytes n) (some : 0 < m)
     small : IsBareInLimits (take place bytes)
     small = bare_in_limits m n _ (λ none. absurd (omega arith)) limits lines
 
-    module _ (most : IsWithinLimits (m + 1) n → ⊥) where
-      no_more_rows : (j i k : ℕ) → place < k → k ≤ length bytes → IsWithinLimits j i → Begins (IsBody j i) (take k bytes) → ⊥
+    module _ (most : IsWithinLimits 1 (m + 1) n → ⊥) where
+      no_more_rows : (j i k : ℕ) → place < k → k ≤ length bytes → IsWithinLimits 1 j i → Begins (IsBody j i) (take k bytes) → ⊥
       no_more_rows j i k more within wide goes =
           let (same, rows) = more_rows j i k more within goes in
-          let narrow : IsWithinLimits j n = subst (IsWithinLimits j) same wide in
-          let fewer : (m + 1) * words_per_row n ≤ j * words_per_row n = mul-le-mul_right (words_per_row n) (omega arith) in
+          let narrow : IsWithinLimits 1 j n = subst (IsWithinLimits 1 j) same wide in
+          let fewer : (m + 1) * words_per_row (n * 1) ≤ j * words_per_row (n * 1) = mul-le-mul_right (words_per_row (n * 1)) (omega arith) in
           most (record { rows = omega (arith, narrow.rows); cols = narrow.cols; words = omega (arith, fewer, narrow.words) })
 
       longest : IsLongest IsBareInLimits bytes place
@@ -361,7 +361,7 @@ module _ (bytes : List ℕ) (m n : ℕ) (first : HasLine bytes n) (some : 0 < m)
 pub length-bare-le : (w : List ℕ) → IsBareInLimits w → length w ≤ 2 ^ 29
 length-bare-le w whole =
     let (m, n, limits, body) = limits_body w whole in
-    let words = words_per_row n in
+    let words = words_per_row (n * 1) in
     let wide : n ≤ 64 * words = omega arith in
     let most : m * n ≤ m * (64 * words) = mul-le-mul_left m wide in
     omega (arith, length-body m n w body, most, limits.words, limits.rows)
@@ -473,7 +473,7 @@ module _ (bytes : List ℕ) (m n end : ℕ) (old A : Matrix) (is : old ≡ zero_
   lines : IsBody m n (take end bytes)
   lines = body_read bytes m n end old A is read
 
-  most : IsWithinLimits (m + 1) n → ⊥
+  most : IsWithinLimits 1 (m + 1) n → ⊥
   most more =
       elim rows.all [
         | inl all ↦ omega (arith, length-body m n _ lines, length-take end bytes)
@@ -537,7 +537,7 @@ rounded_up len width q (suc r) some whole rest =
     subst (AreBegun len width) (sym one) (record { some = omega arith; less = omega arith; all = omega arith })
 
 -- the rows that are to be read
-fewer_rows : (len n begun most : ℕ) → AreBegun len (n + 1) begun → 0 < most → IsWithinLimits most n → (IsWithinLimits (most + 1) n → ⊥)
+fewer_rows : (len n begun most : ℕ) → AreBegun len (n + 1) begun → 0 < most → IsWithinLimits 1 most n → (IsWithinLimits 1 (most + 1) n → ⊥)
     → AreRowsToRead len n (min begun most)
 fewer_rows len n begun most are above limits past =
     elim (cases_lt most begun) [
@@ -547,7 +547,7 @@ fewer_rows len n begun most are above limits past =
           subst (AreRowsToRead len n) (sym is) (record { some = above; limits = limits; begun = omega (arith, less, are.less); all = inr past })
       | inr fewer ↦
           let is : min begun most ≡ begun = omega arith in
-          let words : begun * words_per_row n ≤ most * words_per_row n = mul-le-mul_right (words_per_row n) fewer in
+          let words : begun * words_per_row (n * 1) ≤ most * words_per_row (n * 1) = mul-le-mul_right (words_per_row (n * 1)) fewer in
           subst (AreRowsToRead len n) (sym is) (record {
             some = are.some;
             limits = record { rows = omega (arith, limits.rows); cols = limits.cols; words = omega (arith, words, limits.words) };
@@ -556,7 +556,7 @@ fewer_rows len n begun most are above limits past =
           })
     ]
 
-pub rows_to_read : (len n most : ℕ) → 0 < len → 0 < most → IsWithinLimits most n → (IsWithinLimits (most + 1) n → ⊥)
+pub rows_to_read : (len n most : ℕ) → 0 < len → 0 < most → IsWithinLimits 1 most n → (IsWithinLimits 1 (most + 1) n → ⊥)
     → AreRowsToRead len n (min (len / (n + 1) + min 1 (len % (n + 1))) most)
 rows_to_read len n most some above limits past =
     fewer_rows len n (len / (n + 1) + min 1 (len % (n + 1))) most

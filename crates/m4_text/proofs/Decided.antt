@@ -145,9 +145,9 @@ quotient_bounds total w zero r some fits whole rest = absurd (omega arith)
 quotient_bounds total w (suc q) r some fits whole rest = (omega arith, omega arith, omega arith)
 
 -- the most rows of n columns within the limits
-most_rows : (n : ℕ) → n ≤ 65536 → (m : ℕ) × (0 < m) × IsWithinLimits m n × (IsWithinLimits (m + 1) n → ⊥)
+most_rows : (n : ℕ) → n ≤ 65536 → (m : ℕ) × (0 < m) × IsWithinLimits 1 m n × (IsWithinLimits 1 (m + 1) n → ⊥)
 most_rows n few =
-    let words = words_per_row n in
+    let words = words_per_row (n * 1) in
     elim (cases_lt 0 words) [
       | inr none ↦ (
         65536,
@@ -228,14 +228,14 @@ behind_lines bytes m n first rows w rest body split =
           inl (
             M,
             record {
-              accepted = record { matrix = matrix; over_gf2 = field; limits = subst₂ IsWithinLimits (sym many) (sym wide) rows.limits };
+              accepted = record { matrix = matrix; over_gf2 = field; limits = subst₂ (IsWithinLimits 1) (sym many) (sym wide) rows.limits };
               held = λ zero_rows. absurd (omega (arith, rows.some, many, zero_rows));
               spelled = whole ∙ e;
             },
           )
       | inl inside ↦
           let lines : IsBody m n (take place bytes) = subst (IsBody m n) (sym front) body in
-          let most : IsWithinLimits (m + 1) n → ⊥ = λ more.
+          let most : IsWithinLimits 1 (m + 1) n → ⊥ = λ more.
           elim rows.all [
             | inl all ↦ omega (arith, length-body m n w body)
             | inr past ↦ past more
@@ -405,7 +405,7 @@ header_or_not bytes =
     ]
 
 -- numbers are within the limits or not
-pub limits_or_not : (m n : ℕ) → IsWithinLimits m n ⊎ (IsWithinLimits m n → ⊥)
+pub limits_or_not : (m n : ℕ) → IsWithinLimits 1 m n ⊎ (IsWithinLimits 1 m n → ⊥)
 limits_or_not m n =
     elim (cases_lt 65536 m) [
       | inl many ↦ inr (λ limits. omega (arith, limits.rows))
@@ -413,7 +413,7 @@ limits_or_not m n =
           elim (cases_lt 65536 n) [
             | inl wide ↦ inr (λ limits. omega (arith, limits.cols))
             | inr cols ↦
-                elim (cases_lt (2 ^ 22) (m * words_per_row n)) [
+                elim (cases_lt (2 ^ 22) (m * words_per_row (n * 1))) [
                   | inl large ↦ inr (λ limits. omega (arith, limits.words))
                   | inr words ↦ inl (record { rows = rows; cols = cols; words = words })
                 ]
@@ -463,7 +463,7 @@ headed_or_not bytes =
                             inl (
                               M,
                               record {
-                                accepted = record { matrix = matrix; over_gf2 = field; limits = subst₂ IsWithinLimits (sym many) (sym wide) limits };
+                                accepted = record { matrix = matrix; over_gf2 = field; limits = subst₂ (IsWithinLimits 1) (sym many) (sym wide) limits };
                                 spelled = parts ∙ ap (λ x. start ++ x) none ∙ append-nil start ∙ e;
                               },
                             )

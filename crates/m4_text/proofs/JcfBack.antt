@@ -13,8 +13,9 @@ use Rattle.std.proofs.lemmas.Str.Parse.{IsNumeralModel, numerals_by_value, tells
 use Rattle.m4_model.specs.Matrix.{Matrix, at}
 use Rattle.m4_model.specs.Text.{InLimits}
 use Rattle.m4_model.specs.Jcf.{Token, tokens, tokens_from, is_white, number, Entry, entry, rows_begun, HasJcfHeader, ReadsJcf, nonzero_columns, line_of_columns, nonzeros, jcf_header, jcf_text, CanBeJcf}
-use Rattle.m4_model.specs.Texts.{TextForm, can_hold, text_as, ReadsAs}
-use Rattle.m4_model.specs.Texts.TextForm.{Headed, Bare, Jcf}
+use Rattle.m4_model.specs.declared.choices.Form.{Form}
+use Rattle.m4_model.specs.Texts.{can_hold, text_as, ReadsAs}
+use Rattle.m4_model.specs.declared.choices.Form.TheVariants.{Headed, Bare, Jcf}
 use Rattle.m4_text.proofs.Numbers.{AreDigits, AreDigits-decimal}
 use Rattle.m4_text.proofs.Columns.{few_columns}
 use Rattle.m4_text.proofs.Once.{small}
@@ -509,7 +510,7 @@ module _ (M : Matrix) (accepted : InLimits M) (held : CanBeJcf M) where
       }
 
 -- a text is read back
-pub read_back : (form : TextForm) (M : Matrix) → InLimits M → can_hold form M → length (text_as form M) ≤ 2 ^ 29
+pub read_back : (form : Form) (M : Matrix) → InLimits M → can_hold form M → length (text_as form M) ≤ 2 ^ 29
     → ReadsAs form (text_as form M) M
 read_back Headed M accepted held short = record { accepted = accepted; spelled = refl }
 read_back Bare M accepted held short = record { accepted = accepted; held = held; spelled = refl }

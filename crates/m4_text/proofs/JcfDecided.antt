@@ -189,7 +189,7 @@ bit_small (inl has) = omega arith
 bit_small (inr none) = omega arith
 
 -- the matrix of entries
-read_entries : (bytes : List ℕ) (m n : ℕ) (es : List Entry) → length bytes ≤ 2 ^ 29 → IsWithinLimits m n → IsJcf (tokens bytes) m n es
+read_entries : (bytes : List ℕ) (m n : ℕ) (es : List Entry) → length bytes ≤ 2 ^ 29 → IsWithinLimits 1 m n → IsJcf (tokens bytes) m n es
     → (M : Matrix) × ReadsJcf bytes M
 read_entries bytes m n es short limits spelled =
     let g = λ (i j : ℕ). bit (has_or_not es [] i j) in

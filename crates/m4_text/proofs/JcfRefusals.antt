@@ -11,7 +11,7 @@ use Rattle.m4_model.proofs.MatrixLemmas.{at-table}
 use Rattle.m4_text.specs.declared.fault.TextFault.{TextFault}
 use Rattle.m4_text.specs.declared.fault.TextFault.TheVariants.{Bad, Limit, NoMemory}
 use Rattle.m4_text.specs.Refused.{IsRefusedIn, IsRefusalIn}
-use Rattle.m4_model.specs.Texts.TextForm.{Jcf}
+use Rattle.m4_model.specs.declared.choices.Form.TheVariants.{Jcf}
 use Rattle.m4_text.specs.Tokens.{judged_from, IsBadNumber, IsCutHeader, IsHeaderFault, IsHeaderBefore, ReadsEntries, RefusesEntry}
 
 most_is : most_bytes ≡ 2 ^ 29
@@ -147,7 +147,7 @@ module _ (bytes first : List ℕ) (long : Bool) (found : IsFirstOf bytes first l
   header_limit (is, cut) = inr (found.longer is, (subst IsCutHeader same cut).begins)
 
   -- sizes past a limit
-  sizes_past : (m n end : ℕ) → IsHeaderBefore first long m n end → (IsWithinLimits m n → ⊥) → RefusalJcf bytes PastLimit
+  sizes_past : (m n end : ℕ) → IsHeaderBefore first long m n end → (IsWithinLimits 1 m n → ⊥) → RefusalJcf bytes PastLimit
   sizes_past m n end read past = inl (m, n, judged_from first long end, subst (λ w. HasJcfHeader w m n (judged_from first long end)) same read.header, past)
 
 -- entries that tokens spell, and one that is refused
@@ -184,10 +184,10 @@ module _ (words : List Token) (m n : ℕ) (rest : List Token) (h : HasJcfHeader 
   }
 
   -- it passes no limit where its sizes are within them
-  pub within_limits : IsWithinLimits m n → PassesLimit words → ⊥
+  pub within_limits : IsWithinLimits 1 m n → PassesLimit words → ⊥
   within_limits limits (k, l, behind, header, past) =
       let same = header_same words rest m n k l rest behind h (subst (λ w. HasJcfHeader w k l behind) h.four header) in
-      past (subst₂ IsWithinLimits same.0 same.1 limits)
+      past (subst₂ (IsWithinLimits 1) same.0 same.1 limits)
 
   -- the first entry that isn't taken is the first refused token
   pub first_wrong : (before after : List Token) (t : Token) (es : List Entry) → rest ≡ before ++ t ∷ after → SpellsEntries m n before es
@@ -213,7 +213,7 @@ module _ (words : List Token) (m n : ℕ) (rest : List Token) (h : HasJcfHeader 
       }
 
 module _ (bytes first : List ℕ) (long : Bool) (found : IsFirstOf bytes first long) (m n end : ℕ) (read : IsHeaderBefore first long m n end)
-    (limits : IsWithinLimits m n) where
+    (limits : IsWithinLimits 1 m n) where
   h : HasJcfHeader (judged bytes) m n (judged_from first long end)
   h = subst (λ w. HasJcfHeader w m n (judged_from first long end)) (sym (judged_is bytes first long found)) read.header
 
@@ -252,7 +252,7 @@ module _ (bytes first : List ℕ) (long : Bool) (found : IsFirstOf bytes first l
       } in
       record {
         short = found.shorter short;
-        accepted = record { matrix = entries.matrix; over_gf2 = entries.over_gf2; limits = subst₂ IsWithinLimits rows cols limits };
+        accepted = record { matrix = entries.matrix; over_gf2 = entries.over_gf2; limits = subst₂ (IsWithinLimits 1) rows cols limits };
         entries = entries.entries;
         spelled = subst₂ (λ i j. IsJcf (tokens bytes) i j entries.entries) rows cols spelled;
         ones = λ i j in_rows in_cols. (
@@ -277,22 +277,22 @@ module _ (bytes first : List ℕ) (long : Bool) (found : IsFirstOf bytes first l
       header_limit (bytes ++ more) first long (still_first bytes first more long found either) limit
   refused_header NoMemory none = tt
 
-  pub refused_sizes : (m n end : ℕ) → IsHeaderBefore first long m n end → (IsWithinLimits m n → ⊥) → IsRefusalIn Jcf bytes PastLimit
+  pub refused_sizes : (m n end : ℕ) → IsHeaderBefore first long m n end → (IsWithinLimits 1 m n → ⊥) → IsRefusalIn Jcf bytes PastLimit
   refused_sizes m n end read past more either =
       sizes_past (bytes ++ more) first long (still_first bytes first more long found either) m n end read past
 
-  pub refused_entry : (m n end place : ℕ) (old : Matrix) → IsHeaderBefore first long m n end → IsWithinLimits m n → old ≡ zero_matrix gf2 m n
+  pub refused_entry : (m n end place : ℕ) (old : Matrix) → IsHeaderBefore first long m n end → IsWithinLimits 1 m n → old ≡ zero_matrix gf2 m n
       → RefusesEntry first long end old.rows old.cols place → IsRefusalIn Jcf bytes (BadAt place)
   refused_entry m n end place old read limits is bad more either =
       entry_bad (bytes ++ more) first long (still_first bytes first more long found either) m n end read limits place
       (subst₂ (λ i j. RefusesEntry first long end i j place) (ap (λ (A : Matrix). A.rows) is) (ap (λ (A : Matrix). A.cols) is) bad)
 
-  pub refused_long : (m n end : ℕ) (old new : Matrix) → IsHeaderBefore first long m n end → IsWithinLimits m n → old ≡ zero_matrix gf2 m n
+  pub refused_long : (m n end : ℕ) (old new : Matrix) → IsHeaderBefore first long m n end → IsWithinLimits 1 m n → old ≡ zero_matrix gf2 m n
       → ReadsEntries first long end old new → long ≡ true → IsRefusalIn Jcf bytes PastLimit
   refused_long m n end old new read limits is entries far more either =
       too_long (bytes ++ more) first long (still_first bytes first more long found either) m n end read limits old new
       (ap (λ (A : Matrix). A.rows) is) (ap (λ (A : Matrix). A.cols) is) entries far
 
-  pub read_jcf : (m n end : ℕ) (old new : Matrix) → IsHeaderBefore first long m n end → IsWithinLimits m n → old ≡ zero_matrix gf2 m n
+  pub read_jcf : (m n end : ℕ) (old new : Matrix) → IsHeaderBefore first long m n end → IsWithinLimits 1 m n → old ≡ zero_matrix gf2 m n
       → ReadsEntries first long end old new → long ≡ false → ReadsJcf bytes new
   read_jcf m n end old new read limits is entries short = all_read bytes first long found m n end read limits old new is entries short

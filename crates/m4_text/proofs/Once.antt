@@ -7,8 +7,9 @@ use Rattle.m4_model.specs.Matrix.{Matrix, IsMatrix, at}
 use Rattle.m4_model.specs.Text.{IsLongest, Begins, Reads, Refusal, Fault, BadAt, PastLimit, IsWithinLimits, IsTextOf, header, line}
 use Rattle.m4_model.specs.Bare.{ReadsBare, RefusalBare, IsBareInLimits, IsBareFile}
 use Rattle.m4_model.specs.Jcf.{Token, Entry, entry, tokens, judged, HasJcfHeader, IsJcf, BeginsJcf, IsFirstRefused, HasEntry, ReadsJcf, RefusalJcf, PassesLimit}
-use Rattle.m4_model.specs.Texts.{TextForm, ReadsAs, RefusalAs}
-use Rattle.m4_model.specs.Texts.TextForm.{Headed, Bare, Jcf}
+use Rattle.m4_model.specs.declared.choices.Form.{Form}
+use Rattle.m4_model.specs.Texts.{ReadsAs, RefusalAs}
+use Rattle.m4_model.specs.declared.choices.Form.TheVariants.{Headed, Bare, Jcf}
 use Rattle.m4_model.proofs.MatrixLemmas.{same_parts, same_matrix}
 use Rattle.m4_text.specs.Place.{IsLine}
 use Rattle.m4_text.proofs.Fronts.{same_parts as same_fronts}
@@ -77,10 +78,10 @@ refused_once bytes (BadAt p) (BadAt q) (inr (m, n, first)) (inr (k, l, second)) 
     ap BadAt (longest_once _ bytes p q first.longest (subst₂ (λ i j. IsLongest (IsTextOf i j) bytes q) rows cols second.longest))
 refused_once bytes (BadAt p) PastLimit (inl first) (m, n, has, past) = absurd (first.none m n has)
 refused_once bytes (BadAt p) PastLimit (inr (m, n, first)) (k, l, has, past) =
-    let (rows, cols) = same_sizes bytes m n k l first.begins has in absurd (past (subst₂ IsWithinLimits rows cols first.limits))
+    let (rows, cols) = same_sizes bytes m n k l first.begins has in absurd (past (subst₂ (IsWithinLimits 1) rows cols first.limits))
 refused_once bytes PastLimit (BadAt q) (m, n, has, past) (inl second) = absurd (second.none m n has)
 refused_once bytes PastLimit (BadAt q) (k, l, has, past) (inr (m, n, second)) =
-    let (rows, cols) = same_sizes bytes m n k l second.begins has in absurd (past (subst₂ IsWithinLimits rows cols second.limits))
+    let (rows, cols) = same_sizes bytes m n k l second.begins has in absurd (past (subst₂ (IsWithinLimits 1) rows cols second.limits))
 refused_once bytes PastLimit PastLimit first second = refl
 
 -- bare text
@@ -212,22 +213,22 @@ jcf_once bytes A B first second =
     (λ i below. second.accepted.matrix.width i (omega (arith, rows)) ∙ sym cols) (λ i j in_rows in_cols. refl))
 
 -- the laws of every form
-pub never_both : (form : TextForm) (bytes : List ℕ) (M : Matrix) (fault : Fault) → ReadsAs form bytes M → RefusalAs form bytes fault → ⊥
+pub never_both : (form : Form) (bytes : List ℕ) (M : Matrix) (fault : Fault) → ReadsAs form bytes M → RefusalAs form bytes fault → ⊥
 never_both Headed bytes M fault reads refused = read_or_refused bytes M fault reads refused
 never_both Bare bytes M fault reads refused = never_bare bytes M fault reads refused
 never_both Jcf bytes M fault reads refused = jcf_read_or_refused bytes M fault reads refused
 
-pub one_matrix : (form : TextForm) (bytes : List ℕ) (A B : Matrix) → ReadsAs form bytes A → ReadsAs form bytes B → A ≡ B
+pub one_matrix : (form : Form) (bytes : List ℕ) (A B : Matrix) → ReadsAs form bytes A → ReadsAs form bytes B → A ≡ B
 one_matrix Headed bytes A B first second = read_once bytes A B first second
 one_matrix Bare bytes A B first second = bare_once bytes A B first second
 one_matrix Jcf bytes A B first second = jcf_once bytes A B first second
 
-pub one_fault : (form : TextForm) (bytes : List ℕ) (f g : Fault) → RefusalAs form bytes f → RefusalAs form bytes g → f ≡ g
+pub one_fault : (form : Form) (bytes : List ℕ) (f g : Fault) → RefusalAs form bytes f → RefusalAs form bytes g → f ≡ g
 one_fault Headed bytes f g first second = refused_once bytes f g first second
 one_fault Bare bytes f g first second = bare_refused_once bytes f g first second
 one_fault Jcf bytes f g first second = jcf_refused_once bytes f g first second
 
-pub read_or_not : (form : TextForm) (bytes : List ℕ) → ((M : Matrix) × ReadsAs form bytes M) ⊎ ((fault : Fault) × RefusalAs form bytes fault)
+pub read_or_not : (form : Form) (bytes : List ℕ) → ((M : Matrix) × ReadsAs form bytes M) ⊎ ((fault : Fault) × RefusalAs form bytes fault)
 read_or_not Headed bytes = headed_or_not bytes
 read_or_not Bare bytes = bare_or_not bytes
 read_or_not Jcf bytes = jcf_or_not bytes

@@ -19,9 +19,9 @@ length-header-le m n few_rows few_cols =
     omega (arith, length-append (decimal m) (32 ∷ (decimal n ++ 10 ∷ [])), length-append (decimal n) (10 ∷ []), rows, cols)
 
 -- a text within the limits has at most 2^29 bytes
-pub bounded_text : (m n : ℕ) (w : List ℕ) → IsWithinLimits m n → IsTextOf m n w → length w ≤ 2 ^ 29
+pub bounded_text : (m n : ℕ) (w : List ℕ) → IsWithinLimits 1 m n → IsTextOf m n w → length w ≤ 2 ^ 29
 bounded_text m n w limits is =
-    let words = words_per_row n in
+    let words = words_per_row (n * 1) in
     let wide : n ≤ 64 * words = omega arith in
     let most : m * n ≤ m * (64 * words) = mul-le-mul_left m wide in
     omega (arith, length-text m n w is, length-header-le m n (omega (arith, limits.rows)) (omega (arith, limits.cols)), most, limits.words, limits.rows)
@@ -61,11 +61,11 @@ refused_header bytes place found more (inr long) =
     inl (bad_header (bytes ++ more) place (GoesWrong-append IsHeader bytes more place (omega arith) found))
 
 -- numbers past a limit
-pub refused_limit : (bytes : List ℕ) (m n end : ℕ) → IsHeaderOf bytes m n end → (IsWithinLimits m n → ⊥) → IsRefusal bytes PastLimit
+pub refused_limit : (bytes : List ℕ) (m n end : ℕ) → IsHeaderOf bytes m n end → (IsWithinLimits 1 m n → ⊥) → IsRefusal bytes PastLimit
 refused_limit bytes m n end read past more either = (m, n, HasHeader-read bytes more m n end read, past)
 
 -- bytes that go wrong behind the header line
-pub refused_body : (bytes : List ℕ) (m n end place : ℕ) → IsHeaderOf bytes m n end → IsWithinLimits m n → IsWrongText m n bytes place
+pub refused_body : (bytes : List ℕ) (m n end place : ℕ) → IsHeaderOf bytes m n end → IsWithinLimits 1 m n → IsWrongText m n bytes place
     → IsRefusal bytes (BadAt place)
 refused_body bytes m n end place read limits wrong more (inl none) =
     let same : bytes ≡ bytes ++ more = sym (ap (λ w. bytes ++ w) none ∙ append-nil bytes) in
@@ -128,4 +128,4 @@ read_or_refused bytes M (BadAt place) reads (inr (m, n, bad)) =
     bad.none (M, reads.accepted.matrix, reads.accepted.over_gf2, same.0, same.1, reads.spelled)
 read_or_refused bytes M PastLimit reads (m, n, has, past) =
     let same = same_sizes bytes M.rows M.cols m n (own_header bytes M reads) has in
-    past (subst₂ IsWithinLimits same.0 same.1 reads.accepted.limits)
+    past (subst₂ (IsWithinLimits 1) same.0 same.1 reads.accepted.limits)

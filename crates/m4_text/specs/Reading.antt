@@ -55,6 +55,6 @@ pub record ReadsRows (bytes : List ℕ) (old new : Matrix) : Type 0 where
 -- So many rows of n columns are to be read of len bytes: the rows that the bytes begin, or the most within the limits.
 pub record AreRowsToRead (len n m : ℕ) : Type 0 where
   pub some : 0 < m
-  pub limits : IsWithinLimits m n
+  pub limits : IsWithinLimits 1 m n
   pub begun : (m - 1) * (n + 1) < len
-  pub all : (len ≤ m * (n + 1)) ⊎ (IsWithinLimits (m + 1) n → ⊥)
+  pub all : (len ≤ m * (n + 1)) ⊎ (IsWithinLimits 1 (m + 1) n → ⊥)

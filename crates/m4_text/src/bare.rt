@@ -1,7 +1,7 @@
 ghost use Rattle.std.specs.Prelude.{◌≡◌, ◌≤◌, ◌<◌, ◌↔◌, [], ◌∷◌, length, IsTrue, IfOk, IfErr, MatchResult};
 ghost use Rattle.m4_model.specs.Text.{Begins};
 ghost use Rattle.m4_model.specs.Bare.{ReadsBare};
-ghost use Rattle.m4_model.specs.Texts.{TextForm};
+ghost use Rattle.m4_model.specs.declared.choices.Form.TheVariants.{Bare};
 ghost use Rattle.m4_text.specs.Place.{IsLine, HasLine};
 ghost use Rattle.m4_text.specs.Reading.{AreRowsToRead};
 ghost use Rattle.m4_text.specs.Refused.{IsRefusedIn};
@@ -15,7 +15,7 @@ use std::alloc::Global;
 /// Reads the bytes as the bare text of one matrix.
 pub fn read_bare(alloc: Global, bytes: &[u8]) -> Result<Mzd, TextFault>
     ensures ok { IfOk result (ReadsBare bytes.now) }
-    ensures err { IfErr result (IsRefusedIn TextForm.Bare bytes.now) }
+    ensures err { IfErr result (IsRefusedIn Bare bytes.now) }
 {
     if bytes.is_empty() {
         return Ok(Mzd::zeros(alloc, 0, 0)?);
@@ -41,8 +41,8 @@ pub fn read_bare(alloc: Global, bytes: &[u8]) -> Result<Mzd, TextFault>
 fn first_line(bytes: &[u8]) -> Result<u32, TextFault>
     requires { 0 < length bytes.now }
     ensures line { IfOk result (HasLine bytes.now) }
-    ensures few { IfOk result (λ cols. cols ≤ 65536) }
-    ensures err { IfErr result (IsRefusedIn TextForm.Bare bytes.now) }
+    ensures few { IfOk result (λ cols. cols ≤ MOST_COLS) }
+    ensures err { IfErr result (IsRefusedIn Bare bytes.now) }
 {
     let mut cols = 0;
     while binary_digit(bytes, cols as usize).is_some() {
@@ -63,7 +63,7 @@ fn first_line(bytes: &[u8]) -> Result<u32, TextFault>
 /// limits.
 fn rows_to_read(len: usize, cols: u32) -> u32
     requires some { 0 < len }
-    requires few_cols { cols ≤ 65536 }
+    requires few_cols { cols ≤ MOST_COLS }
     ensures { AreRowsToRead len cols result }
 {
     let most = most_rows(cols);

@@ -3,7 +3,6 @@ ghost use Rattle.m4_model.specs.Jcf.{IsZeroRow, CanBeJcf};
 ghost use Rattle.m4_model.specs.Text.{PastLimit};
 ghost use Rattle.m4_model.specs.Texts.{can_hold, text_as, ReadsAs, RefusalAs};
 ghost use Rattle.m4_io.specs.Outside.{WritesAll};
-ghost use Rattle.m4_text.specs.Forms.{text_form};
 ghost use Rattle.m4_text.specs.Refused.{IsRefusedIn};
 
 use crate::bare::read_bare;
@@ -13,31 +12,21 @@ use crate::read::read_text;
 use crate::write::{write_bare, write_text};
 use crate::{TextFault, WriteFault};
 use m4_io::Sink;
+use m4_model::Form;
 use m4_mzd::Mzd;
 use std::alloc::Global;
-
-/// A form of a text over GF(2).
-#[derive(Clone, Copy, Debug, PartialEq, Eq)]
-pub enum Form {
-    /// Headed text: a header with the sizes, and a line of digits for each row.
-    Text,
-    /// Bare text: the lines of digits alone.
-    Bare,
-    /// JCF: the columns of the ones, row by row, as numbers.
-    Jcf,
-}
 
 /// Reads the bytes as the text of one matrix in this form.
 ///
 /// A fault is that of the bytes. Where more than 2^29 of them are given, it is that of every file that begins with them. A
 /// passed limit is told as such, unless memory is wanting.
 pub fn read_as(alloc: Global, form: Form, bytes: &[u8]) -> Result<Mzd, TextFault>
-    ensures ok { IfOk result (ReadsAs (text_form form) bytes.now) }
-    ensures err { IfErr result (IsRefusedIn (text_form form) bytes.now) }
-    ensures limit { RefusalAs (text_form form) bytes.now PastLimit → (result ≡ Err TextFault.Limit) ⊎ (result ≡ Err TextFault.NoMemory) }
+    ensures ok { IfOk result (ReadsAs form bytes.now) }
+    ensures err { IfErr result (IsRefusedIn form bytes.now) }
+    ensures limit { RefusalAs form bytes.now PastLimit → (result ≡ Err TextFault.Limit) ⊎ (result ≡ Err TextFault.NoMemory) }
 {
     match form {
-        Form::Text => read_text(alloc, bytes),
+        Form::Headed => read_text(alloc, bytes),
         Form::Bare => read_bare(alloc, bytes),
         Form::Jcf => read_jcf(alloc, bytes),
     }
@@ -46,10 +35,10 @@ pub fn read_as(alloc: Global, form: Form, bytes: &[u8]) -> Result<Mzd, TextFault
 /// Whether the form can hold the matrix: bare text no matrix of columns without a row, JCF no row of zeros before
 /// another row.
 pub fn can_write(m: &Mzd, form: Form) -> bool
-    ensures { IsTrue result ↔ can_hold (text_form form) m.now }
+    ensures { IsTrue result ↔ can_hold form m.now }
 {
     match form {
-        Form::Text => true,
+        Form::Headed => true,
         Form::Bare => m.rows() > 0 || m.cols() == 0,
         Form::Jcf => zero_rows_stand_last(m),
     }
@@ -57,12 +46,12 @@ pub fn can_write(m: &Mzd, form: Form) -> bool
 
 /// Writes the text of the matrix in this form. It takes no memory.
 pub fn write_as<O: Sink>(m: &Mzd, form: Form, sink: &mut O) -> Result<(), WriteFault>
-    requires { can_hold (text_form form) m.now }
+    requires { can_hold form m.now }
     ensures { WritesAll (O.taken sink.old) (O.taken sink.new) (O.faults sink.old) (O.faults sink.new) result
-        (text_as (text_form form) m.now) }
+        (text_as form m.now) }
 {
     match form {
-        Form::Text => write_text(m, sink),
+        Form::Headed => write_text(m, sink),
         Form::Bare => write_bare(m, sink),
         Form::Jcf => write_jcf(m, sink),
     }

@@ -1,6 +1,6 @@
 ghost use Rattle.std.specs.Prelude.{◌≡◌, ◌^◌, ◌≤◌, false, length, MatchOption, MatchResult, OnOk, IfOk, IfErr};
 ghost use Rattle.m4_model.specs.Jcf.{ReadsJcf};
-ghost use Rattle.m4_model.specs.Texts.{TextForm};
+ghost use Rattle.m4_model.specs.declared.choices.Form.TheVariants.{Jcf};
 ghost use Rattle.m4_text.specs.Refused.{IsRefusedIn};
 ghost use Rattle.m4_text.specs.Tokens.{IsNextNumber, LacksNumber, IsHeaderBefore, IsHeaderFault, IsCell, LacksCell, ReadsEntries, RefusesEntry};
 
@@ -39,7 +39,7 @@ struct Cell {
 /// Reads the bytes as the JCF text of one matrix.
 pub fn read_jcf(alloc: Global, bytes: &[u8]) -> Result<Mzd, TextFault>
     ensures ok { IfOk result (ReadsJcf bytes.now) }
-    ensures err { IfErr result (IsRefusedIn TextForm.Jcf bytes.now) }
+    ensures err { IfErr result (IsRefusedIn Jcf bytes.now) }
 {
     let long = bytes.len() > MOST_BYTES;
     let first = &bytes[..bytes.len().min(MOST_BYTES)];

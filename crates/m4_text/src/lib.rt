@@ -30,9 +30,10 @@ mod tokens;
 mod write;
 
 pub use fault::{TextFault, WriteFault};
-pub use form::{Form, can_write, read_as, write_as};
+pub use form::{can_write, read_as, write_as};
 pub use laws::{law_read, law_read_back, law_read_or_refused, law_text_len};
-pub use limits::within_limits;
+pub use limits::{MOST_BYTES, MOST_COLS, MOST_ROWS, MOST_WORDS, within_limits};
+pub use m4_model::Form;
 pub use number_line::write_numbers;
 pub use read::read_text;
 pub use reader::Reader;

@@ -19,7 +19,7 @@ pub fn read_text(alloc: Global, bytes: &[u8]) -> Result<Mzd, TextFault>
         Ok(header) => header,
         Err(place) => return Err(TextFault::Bad { at: place as u64 }),
     };
-    if !within_limits(header.rows, header.cols) {
+    if !within_limits(1, header.rows, header.cols) {
         return Err(TextFault::Limit);
     }
     let mut m = Mzd::zeros(alloc, header.rows, header.cols)?;

@@ -1,7 +1,6 @@
-ghost use Rattle.std.specs.Prelude.{◌≡◌, ◌⊎◌, ℕ, ◌^◌, ◌<◌, ◌≤◌, List, [], ◌++◌, length, Some, None, Ok, Err, OnOk, IfOk, IfErr, IsErr};
+ghost use Rattle.std.specs.Prelude.{◌≡◌, ◌⊎◌, ℕ, ◌<◌, ◌≤◌, List, [], ◌++◌, length, Some, None, Ok, Err, OnOk, IfOk, IfErr, IsErr};
 ghost use Rattle.m4_model.specs.Text.{PastLimit};
 ghost use Rattle.m4_model.specs.Texts.{ReadsAs, RefusalAs};
-ghost use Rattle.m4_text.specs.Forms.{text_form};
 ghost use Rattle.m4_text.specs.Reader.{Collected, StandsFor, IsFaultOf, IsFaultOfAll};
 ghost use Rattle.m4_text.specs.declared.fault.TextFault.{TextFault};
 
@@ -26,13 +25,13 @@ pub struct Reader {
 impl Model for Reader {
     ghost Value = { Collected };
 
-    ghost view = { λ r. record { form = text_form r.form; bytes = r.bytes.items; fault = r.fault } };
+    ghost view = { λ r. record { form = r.form; bytes = r.bytes.items; fault = r.fault } };
 }
 
 impl Reader {
     /// A reader that was fed nothing.
     pub fn new(alloc: Global, form: Form) -> Reader
-        ensures form { result.form ≡ text_form form }
+        ensures form { result.form ≡ form }
         ensures none { result.fault ≡ None }
         ensures stands { StandsFor result [] }
     {
@@ -50,9 +49,9 @@ impl Reader {
     pub fn feed(&mut self, piece: &[u8]) -> Result<(), TextFault>
         ensures form { self.new.form ≡ self.old.form }
         ensures stands { (bytes : List ℕ) → StandsFor self.old bytes → StandsFor self.new (bytes ++ piece.now) }
-        ensures ok { OnOk result ((bytes : List ℕ) → StandsFor self.new bytes → length bytes ≤ 2 ^ 29) }
+        ensures ok { OnOk result ((bytes : List ℕ) → StandsFor self.new bytes → length bytes ≤ MOST_BYTES) }
         ensures quiet { OnOk result (self.new.fault ≡ None) }
-        ensures long { (bytes : List ℕ) → StandsFor self.old bytes → 2 ^ 29 < length (bytes ++ piece.now) → IsErr result }
+        ensures long { (bytes : List ℕ) → StandsFor self.old bytes → MOST_BYTES < length (bytes ++ piece.now) → IsErr result }
         ensures err { IfErr result (λ fault. (bytes : List ℕ) → StandsFor self.new bytes
             → IsFaultOfAll self.old.form bytes fault) }
         ensures kept { IfErr result (λ fault. self.new.fault ≡ Some fault) }
@@ -89,7 +88,7 @@ impl Reader {
         ensures same { self.new.form ≡ self.old.form }
         ensures fault { self.new.fault ≡ self.old.fault }
         ensures kept { OnOk result (self.new.bytes ≡ self.old.bytes ++ piece.now) }
-        ensures few { OnOk result (length self.new.bytes ≤ 2 ^ 29) }
+        ensures few { OnOk result (length self.new.bytes ≤ MOST_BYTES) }
         ensures err { IfErr result (IsFaultOfAll self.old.form (self.old.bytes ++ piece.now)) }
     {
         if self.bytes.extend_from_slice(piece).is_err() {

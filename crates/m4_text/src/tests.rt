@@ -89,8 +89,8 @@ fn headed_texts_are_read_and_written(rt: HostRuntime) -> Result<(), Fail> {
         b"gf2 1 10\n0110100110\n",
     ];
     for text in texts {
-        reads(&rt, rt.alloc(), Form::Text, text, text)?;
-        writes(&rt, rt.alloc(), text, Form::Text, text)?;
+        reads(&rt, rt.alloc(), Form::Headed, text, text)?;
+        writes(&rt, rt.alloc(), text, Form::Headed, text)?;
     }
     Ok(())
 }
@@ -173,7 +173,7 @@ fn a_text_cut_short_goes_wrong_at_its_end(rt: HostRuntime) {
     let bytes = b"gf2 2 10\n1100000000\n0100000001\n";
     for len in 0..bytes.len() {
         let fault = TextFault::Bad { at: len as u64 };
-        refuses(&rt, rt.alloc(), Form::Text, &bytes[..len], fault);
+        refuses(&rt, rt.alloc(), Form::Headed, &bytes[..len], fault);
     }
     let bytes = b"110\n010\n";
     for len in 0..bytes.len() {
@@ -189,14 +189,14 @@ fn texts_are_refused_at_their_places(rt: HostRuntime) {
     let wide =
         b"gf2 1 70\n1101000011010000110100010000000011000011011001011010111110110010110x00\n";
     let rows: [(Form, &[u8], u64); 18] = [
-        (Form::Text, wide, 76),
-        (Form::Text, b"gf2 16384 16384\n", 16),
-        (Form::Text, b"gf2e 2 7 1 1\n", 3),
-        (Form::Text, b"gf2 01 1\n", 5),
-        (Form::Text, b"gf2 1 1\n1\n\n", 10),
-        (Form::Text, b"gf2 1 1\r\n1\r\n", 7),
-        (Form::Text, b"gf2 1 1\n2\n", 8),
-        (Form::Text, b"gf2 1234567890 1\n", 13),
+        (Form::Headed, wide, 76),
+        (Form::Headed, b"gf2 16384 16384\n", 16),
+        (Form::Headed, b"gf2e 2 7 1 1\n", 3),
+        (Form::Headed, b"gf2 01 1\n", 5),
+        (Form::Headed, b"gf2 1 1\n1\n\n", 10),
+        (Form::Headed, b"gf2 1 1\r\n1\r\n", 7),
+        (Form::Headed, b"gf2 1 1\n2\n", 8),
+        (Form::Headed, b"gf2 1234567890 1\n", 13),
         (Form::Bare, b"10\n1\n", 4),
         (Form::Bare, b"10\n011\n", 5),
         (Form::Bare, b"\n\n1", 2),
@@ -216,8 +216,8 @@ fn texts_are_refused_at_their_places(rt: HostRuntime) {
 #[test]
 fn texts_past_a_limit_are_refused(rt: HostRuntime) -> Result<(), Fail> {
     let rows: [(Form, &[u8]); 4] = [
-        (Form::Text, b"gf2 16385 16384\n"),
-        (Form::Text, b"gf2 65537 1\n"),
+        (Form::Headed, b"gf2 16385 16384\n"),
+        (Form::Headed, b"gf2 65537 1\n"),
         (Form::Jcf, b"65537 1 2\n0\n"),
         (Form::Jcf, b"16385 16384 2 0 x"),
     ];

@@ -1,7 +1,10 @@
-use Rattle.std.proofs.Common.{arith, length, sym, ◌∙◌, subst, ◌≡◌}
+use Rattle.std.proofs.Common.{ℕ, arith, length, sym, ◌∙◌, subst, ◌≡◌}
 use Rattle.std.proofs.lemmas.Bool.{eqb-true, iff_false}
 use Rattle.std.proofs.lemmas.List.{nil_from_length}
 use Rattle.m4_model.specs.Bare.{ReadsBare}
+use Rattle.m4_model.specs.Text.{BadAt}
+use Rattle.m4_model.specs.declared.choices.Form.TheVariants.{Bare}
+use Rattle.m4_text.specs.Refused.{IsRefusalIn}
 use Rattle.m4_text.proofs.Bares.{no_lines, refused_more, refused_next, refused_line}
 use Rattle.m4_text.proofs.bare.read_bare.Goals as goal
 
@@ -25,5 +28,6 @@ returns-in-Ok-clause-err c =
 
 pub returns-clause-err : goal.returns-clause-err
 returns-clause-err c =
-    refused_line c.args.bytes.now c.rows_to_read-rows.result c.in_ok-cols.cols c.in-Err.place c.in_ok-m.m
-    c.in_ok-m.ensures c.in_ok-cols.ensures.line c.rows_to_read-rows.ensures c.in-Err.ensures.err
+    subst (λ (k : ℕ). IsRefusalIn Bare c.args.bytes.now (BadAt k)) (omega arith)
+    (refused_line c.args.bytes.now c.rows_to_read-rows.result c.in_ok-cols.cols c.in-Err.place c.in_ok-m.m
+    c.in_ok-m.ensures c.in_ok-cols.ensures.line c.rows_to_read-rows.ensures c.in-Err.ensures.err)

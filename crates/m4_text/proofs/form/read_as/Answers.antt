@@ -2,22 +2,21 @@
 use Rattle.std.proofs.Common.{subst}
 use Rattle.m4_model.specs.Text.{PastLimit}
 use Rattle.m4_model.specs.Texts.{RefusalAs}
-use Rattle.m4_model.specs.Texts.TextForm.{Headed, Bare, Jcf}
-use Rattle.m4_text.specs.Forms.{text_form}
+use Rattle.m4_model.specs.declared.choices.Form.TheVariants.{Headed, Bare, Jcf}
 use Rattle.m4_text.proofs.Readers.{limit_refused}
 use Rattle.m4_text.proofs.form.read_as.Goals as goal
 
-pub returns-in-Text-clause-limit : goal.returns-in-Text-clause-limit
-returns-in-Text-clause-limit c = λ passed.
+pub returns-in-Headed-clause-limit : goal.returns-in-Headed-clause-limit
+returns-in-Headed-clause-limit c = λ passed.
     limit_refused Headed c.args.bytes.now c.read_text.result c.read_text.ensures.ok c.read_text.ensures.err
-    (subst (λ f. RefusalAs (text_form f) c.args.bytes.now PastLimit) c.in-Text.is passed)
+    (subst (λ f. RefusalAs f c.args.bytes.now PastLimit) c.in-Headed.is passed)
 
 pub returns-in-Bare-clause-limit : goal.returns-in-Bare-clause-limit
 returns-in-Bare-clause-limit c = λ passed.
     limit_refused Bare c.args.bytes.now c.read_bare.result c.read_bare.ensures.ok c.read_bare.ensures.err
-    (subst (λ f. RefusalAs (text_form f) c.args.bytes.now PastLimit) c.in-Bare.is passed)
+    (subst (λ f. RefusalAs f c.args.bytes.now PastLimit) c.in-Bare.is passed)
 
 pub returns-in-Jcf-clause-limit : goal.returns-in-Jcf-clause-limit
 returns-in-Jcf-clause-limit c = λ passed.
     limit_refused Jcf c.args.bytes.now c.read_jcf.result c.read_jcf.ensures.ok c.read_jcf.ensures.err
-    (subst (λ f. RefusalAs (text_form f) c.args.bytes.now PastLimit) c.in-Jcf.is passed)
+    (subst (λ f. RefusalAs f c.args.bytes.now PastLimit) c.in-Jcf.is passed)

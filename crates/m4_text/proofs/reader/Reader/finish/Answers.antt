@@ -2,7 +2,6 @@ use Rattle.std.proofs.Common.{◌≡◌, ap, sym, subst₂, ◌∙◌, None, Err
 use Rattle.std.proofs.lemmas.Result.{MatchResult-weaker}
 use Rattle.m4_text.specs.Refused.{IsRefusedIn}
 use Rattle.m4_text.specs.Reader.{Collected}
-use Rattle.m4_text.specs.Forms.{text_form}
 use Rattle.m4_text.proofs.Readers.{told, untold, all_itself, refused_itself, limit_told}
 use Rattle.m4_text.proofs.reader.Reader.finish.Goals as goal
 
@@ -15,7 +14,7 @@ pub returns-clause-err : goal.returns-clause-err
 returns-clause-err c =
     let self = c.args.self in
     let none : self.fault ≡ None = ap (λ (r : Collected). r.fault) (sym c.self.view_is) ∙ c.in-None.is in
-    let form : text_form c.self.inside.form ≡ self.form = ap (λ (r : Collected). r.form) c.self.view_is in
+    let form : c.self.inside.form ≡ self.form = ap (λ (r : Collected). r.form) c.self.view_is in
     let kept : c.deref.result.now ≡ self.bytes = c.deref.ensures.value ∙ ap (λ (r : Collected). r.bytes) c.self.view_is in
     MatchResult-weaker c.read_as.result c.read_as.ensures.err (λ _ _. tt) (λ fault refused bytes stands.
     refused_itself self.form bytes fault
