@@ -1,0 +1,4 @@
+pub mod Texts
+pub mod Small
+pub mod Told
+pub mod Job

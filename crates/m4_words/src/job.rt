@@ -1,0 +1,18 @@
+//! What the words of a command line ask for.
+
+ghost use Rattle.std.specs.Option.{ForSome};
+ghost use Rattle.m4_words.specs.Small.{IsSmall};
+
+use arrayvec::ArrayVec;
+use m4_model::{Choices, Command};
+
+/// What the words ask for: a command, the names of its files in order, and what the options choose.
+#[derive(Debug, Drop)]
+pub struct Job<'a> {
+    pub command: Command,
+    pub files: ArrayVec<&'a str, 3>,
+    /// Where `k` or `tables` is given, it lies between 1 and 8.
+    pub choices: Choices,
+    ghost small_k: { ForSome choices.k IsSmall },
+    ghost few_tables: { ForSome choices.tables IsSmall },
+}
