@@ -1,13 +1,13 @@
 -- Each clause of `run`, from what the work gives: by cases on the status.
 use Rattle.std.proofs.Common.{◌≡◌, ℕ, ◌<◌, ◌⊎◌, List, [], length, Option, Some, None, Ok, Err, refl, sym, ◌∙◌, ap, subst, arith, inl, inr, append-nil, length-append}
 use Rattle.std.specs.Io.KnownBytes.{Appends, Keeps}
-use Rattle.m4_model.specs.Words.{Job, job}
+use Rattle.m4_model.specs.Words.{Job, job, form_of_answer}
 use Rattle.m4_model.specs.Outcome.{Stock, Answer, Operands, IsWritten, Outcome, status_of, can_hold_answer, text_of_answer, fault_line}
 use Rattle.m4_model.specs.declared.status.Status.{Status}
 use Rattle.m4_model.specs.declared.status.Status.TheVariants.{Done, No, Words, Text, Shape, Limit, Read, Write, Memory}
 use Rattle.m4_io.specs.Outside.{Rose, AppendsFront}
-use Rattle.m4_cmd.specs.Run.{IsAsked, IsAnswered, IsJudged, IsRefused, LacksOperand, Answers, AnswersInPart, Reports}
-use Rattle.m4_cmd.specs.Steps.{Change, NoReadFailed, NothingWritten, IsJobAnswer, IsDone, AskedGives, WorkGives}
+use Rattle.m4_cmd.specs.Run.{Change, IsAsked, IsAnswered, IsJudged, IsRefused, LacksOperand, Answers, AnswersInPart, Reports}
+use Rattle.m4_cmd.specs.Steps.{NoReadFailed, NothingWritten, IsJobAnswer, IsDone, JobGives, AskedGives, RefusesWord, WorkGives}
 
 -- known bytes that stay grow by nothing
 appends_nothing : (old new : Option (List ℕ)) → new ≡ old → Appends old new []
@@ -21,170 +21,184 @@ keeps None new same = tt
 keeps (Some xs) None same = absurd cc
 keeps (Some xs) (Some ys) same = cc
 
-module _ (told : Option Stock) (words : List (List ℕ)) (change : Change) where
-  -- words that ask for a job aren't refused
-  asked_not_refused : (word : ℕ) {A : Type 0} (status : Status) → AskedGives told words change status → job words ≡ Err word → A
-  asked_not_refused word status gives refused = let e = gives.understood in absurd cc
+-- a count that grew doesn't stand still
+grew_not_same : {before now : ℕ} {A : Type 0} → now ≡ before → before < now → A
+grew_not_same same grew = absurd (omega arith)
 
-  pub words_only : (status : Status) (word : ℕ) → WorkGives told words change status → status ≡ Words word → job words ≡ Err word
-  words_only status word gives is = let P : Status → Type 0 = WorkGives told words change in (subst P is gives).2
+-- what a job ends with
+module _ (told : Option Stock) (asked : Job) (change : Change) where
+  job_read : (status : Status) → JobGives told asked change status → change.read_before < change.read_now → status ≡ Read
+  job_read Done gives grew = grew_not_same gives.kept grew
+  job_read No gives grew = grew_not_same gives.kept grew
+  job_read (Words word) gives grew = absurd gives
+  job_read (Text operand place) gives grew = grew_not_same gives.0 grew
+  job_read Shape gives grew = grew_not_same gives.0 grew
+  job_read Limit gives grew = grew_not_same gives.0 grew
+  job_read Read gives grew = refl
+  job_read Write gives grew = grew_not_same gives.kept grew
+  job_read Memory gives grew = grew_not_same gives.0 grew
 
-  pub words_always : (status : Status) (word : ℕ) → WorkGives told words change status → job words ≡ Err word → status ≡ Words word
-  words_always Done word gives refused = asked_not_refused word Done gives refused
-  words_always No word gives refused = asked_not_refused word No gives refused
-  words_always (Words other) word gives refused = let e = gives.2 in cc
-  words_always (Text operand place) word gives refused = asked_not_refused word (Text operand place) gives refused
-  words_always Shape word gives refused = asked_not_refused word Shape gives refused
-  words_always Limit word gives refused = asked_not_refused word Limit gives refused
-  words_always Read word gives refused = asked_not_refused word Read gives refused
-  words_always Write word gives refused = asked_not_refused word Write gives refused
-  words_always Memory word gives refused = asked_not_refused word Memory gives refused
+  job_write : (status : Status) → JobGives told asked change status → change.out.before < change.out.now → status ≡ Write
+  job_write Done gives grew = grew_not_same gives.wrote.faults grew
+  job_write No gives grew = grew_not_same gives.wrote.faults grew
+  job_write (Words word) gives grew = absurd gives
+  job_write (Text operand place) gives grew = grew_not_same gives.1.faults grew
+  job_write Shape gives grew = grew_not_same gives.1.faults grew
+  job_write Limit gives grew = grew_not_same gives.1.faults grew
+  job_write Read gives grew = grew_not_same gives.0.faults grew
+  job_write Write gives grew = refl
+  job_write Memory gives grew = grew_not_same gives.1.faults grew
 
-  -- a count that grew doesn't stand still
-  grew_not_same : {before now : ℕ} {A : Type 0} → now ≡ before → before < now → A
-  grew_not_same same grew = absurd (omega arith)
+  job_nothing : (status : Status) → JobGives told asked change status → IsRefused status → NothingWritten change.out
+  job_nothing Done gives refused = absurd refused
+  job_nothing No gives refused = absurd refused
+  job_nothing (Words word) gives refused = absurd gives
+  job_nothing (Text operand place) gives refused = gives.1
+  job_nothing Shape gives refused = gives.1
+  job_nothing Limit gives refused = gives.1
+  job_nothing Read gives refused = gives.0
+  job_nothing Write gives refused = absurd refused
+  job_nothing Memory gives refused = gives.1
 
-  pub read_always : (status : Status) → WorkGives told words change status → change.read_before < change.read_now → status ≡ Read
-  read_always Done gives grew = grew_not_same gives.gives.kept grew
-  read_always No gives grew = grew_not_same gives.gives.kept grew
-  read_always (Words word) gives grew = grew_not_same gives.0 grew
-  read_always (Text operand place) gives grew = grew_not_same gives.gives.0 grew
-  read_always Shape gives grew = grew_not_same gives.gives.0 grew
-  read_always Limit gives grew = grew_not_same gives.gives.0 grew
-  read_always Read gives grew = refl
-  read_always Write gives grew = grew_not_same gives.gives.kept grew
-  read_always Memory gives grew = grew_not_same gives.gives.0 grew
+  -- over the told files, with words that ask for it
+  module _ (words : List (List ℕ)) (files : Stock) (understood : job words ≡ Ok asked) (tells : told ≡ Some files) where
+    -- the operands of a job that has an answer are accepted
+    accepted : (answer : Answer) (is : IsJobAnswer told asked answer) → Operands words files asked is.matrices
+    accepted answer is = record { understood = understood; accepted = is.read files tells }
 
-  pub read_only : (status : Status) → WorkGives told words change status → status ≡ Read → Rose change.read_before change.read_now ⊎ LacksOperand told words
-  read_only status gives is =
-      let P : Status → Type 0 = WorkGives told words change in
-      let read : WorkGives told words change Read = subst P is gives in
-      elim read.gives.1 [
+    -- an answer that its form can hold is the outcome
+    written : (answer : Answer) → IsJobAnswer told asked answer → can_hold_answer (form_of_answer asked.choices) answer
+        → IsWritten words files (status_of answer) (text_of_answer (form_of_answer asked.choices) answer)
+    written answer is held = record {
+      asked = asked;
+      matrices = is.matrices;
+      answer = answer;
+      operands = accepted answer is;
+      answers = is.answers;
+      held = held;
+      ends = refl;
+      text = refl;
+    }
+
+    -- so it is with the status of the answer
+    written_done : (status : Status) (done : IsDone told asked change status) → IsWritten words files status (text_of_answer (form_of_answer asked.choices) done.answer)
+    written_done status done =
+        let P : Status → Type 0 = λ s. IsWritten words files s (text_of_answer (form_of_answer asked.choices) done.answer) in
+        subst P done.ends (written done.answer done.is done.wrote.held)
+
+    -- an answer's status is that of its outcome
+    answered : (answer : Answer) (text : List ℕ) → IsWritten words files (status_of answer) text → IsAnswered (status_of answer) × Outcome words files (status_of answer) text
+    answered (Answer.OneMatrix R) text is = (tt, is)
+    answered (Answer.Lines lines) text is = (tt, is)
+    answered (Answer.NoAnswer line) text is = (tt, is)
+
+    job_front : JobGives told asked change Write → AnswersInPart words files change.out.taken_before change.out.taken_now
+    job_front part =
+        let text = text_of_answer (form_of_answer asked.choices) part.answer in
+        let outcome = answered part.answer text (written part.answer part.is part.wrote.held) in
+        (status_of part.answer, text, outcome.0, outcome.1, part.wrote.taken)
+
+    job_outcome : (status : Status) → JobGives told asked change status → IsJudged status → Answers words files status change.out.taken_before change.out.taken_now
+    job_outcome Done done judged = (text_of_answer (form_of_answer asked.choices) done.answer, written_done Done done, done.wrote.taken)
+    job_outcome No done judged = (text_of_answer (form_of_answer asked.choices) done.answer, written_done No done, done.wrote.taken)
+    job_outcome (Words word) gives judged = absurd gives
+    job_outcome (Text operand place) gives judged =
+        ([], (record { asked = asked; understood = understood; refused = gives.2 files tells }, refl), appends_nothing _ _ gives.1.taken)
+    job_outcome Shape gives judged = (
+      [],
+      (
+        elim gives.2 [
+          | inl misfit ↦ inl (record { asked = asked; matrices = misfit.matrices; operands = record { understood = understood; accepted = misfit.read files tells }; misfit = misfit.misfit })
+          | inr unheld ↦ inr (record {
+            asked = asked;
+            matrices = unheld.is.matrices;
+            answer = unheld.answer;
+            operands = accepted unheld.answer unheld.is;
+            answers = unheld.is.answers;
+            unheld = unheld.unheld;
+          })
+        ],
+        refl,
+      ),
+      appends_nothing _ _ gives.1.taken,
+    )
+    job_outcome Limit gives judged = (
+      [],
+      (
+        elim gives.2 [
+          | inl operand ↦ inl (operand.0, record { asked = asked; understood = understood; refused = operand.1 files tells })
+          | inr large ↦ inr (record {
+            asked = asked;
+            matrices = large.matrices;
+            operands = record { understood = understood; accepted = large.read files tells };
+            fits = large.passes.fits;
+            large = large.passes.large;
+          })
+        ],
+        refl,
+      ),
+      appends_nothing _ _ gives.1.taken,
+    )
+    job_outcome Read gives judged = absurd judged
+    job_outcome Write gives judged = absurd judged
+    job_outcome Memory gives judged = absurd judged
+
+-- what the work ends with
+module _ (told : Option Stock) (words : List (List ℕ)) (change : Change) (status : Status) where
+  pub words_only : (word : ℕ) → WorkGives told words change status → status ≡ Words word → job words ≡ Err word
+  words_only word (inl asked) is = let P : Status → Type 0 = JobGives told asked.asked change in absurd (subst P is asked.gives)
+  words_only word (inr refused) is = let number : refused.0 ≡ word = cc in refused.2.refused ∙ ap (λ (n : ℕ). Err n) number
+
+  pub words_always : (word : ℕ) → WorkGives told words change status → job words ≡ Err word → status ≡ Words word
+  words_always word (inl asked) is = let e = asked.understood in absurd cc
+  words_always word (inr refused) is = let other = refused.2.refused in let number : refused.0 ≡ word = cc in refused.1 ∙ ap Words number
+
+  pub read_always : WorkGives told words change status → change.read_before < change.read_now → status ≡ Read
+  read_always (inl asked) grew = job_read told asked.asked change status asked.gives grew
+  read_always (inr refused) grew = grew_not_same refused.2.kept grew
+
+  pub read_only : WorkGives told words change status → status ≡ Read → Rose change.read_before change.read_now ⊎ LacksOperand told words
+  read_only (inl asked) is =
+      let P : Status → Type 0 = JobGives told asked.asked change in
+      let read : JobGives told asked.asked change Read = subst P is asked.gives in
+      elim read.1 [
         | inl rose ↦ inl rose
-        | inr missing ↦ inr (missing.0, missing.1, record { asked = read.asked; understood = read.understood; missing = missing.2 })
+        | inr missing ↦ inr (missing.0, missing.1, record { asked = asked.asked; understood = asked.understood; missing = missing.2 })
       ]
+  read_only (inr refused) is = let other = refused.1 in absurd cc
 
-  pub write_always : (status : Status) → WorkGives told words change status → change.out.before < change.out.now → status ≡ Write
-  write_always Done gives grew = grew_not_same gives.gives.wrote.faults grew
-  write_always No gives grew = grew_not_same gives.gives.wrote.faults grew
-  write_always (Words word) gives grew = grew_not_same gives.1.faults grew
-  write_always (Text operand place) gives grew = grew_not_same gives.gives.1.faults grew
-  write_always Shape gives grew = grew_not_same gives.gives.1.faults grew
-  write_always Limit gives grew = grew_not_same gives.gives.1.faults grew
-  write_always Read gives grew = grew_not_same gives.gives.0.faults grew
-  write_always Write gives grew = refl
-  write_always Memory gives grew = grew_not_same gives.gives.1.faults grew
+  pub write_always : WorkGives told words change status → change.out.before < change.out.now → status ≡ Write
+  write_always (inl asked) grew = job_write told asked.asked change status asked.gives grew
+  write_always (inr refused) grew = grew_not_same refused.2.nothing.faults grew
 
-  pub write_only : (status : Status) → WorkGives told words change status → status ≡ Write → Rose change.out.before change.out.now
-  write_only status gives is = let P : Status → Type 0 = WorkGives told words change in (subst P is gives).gives.wrote.faults
+  pub write_only : WorkGives told words change status → status ≡ Write → Rose change.out.before change.out.now
+  write_only (inl asked) is = let P : Status → Type 0 = JobGives told asked.asked change in (subst P is asked.gives).wrote.faults
+  write_only (inr refused) is = let other = refused.1 in absurd cc
 
-  -- over the told files the operands of a job are accepted
-  accepted : (asked : Job) (files : Stock) → job words ≡ Ok asked → told ≡ Some files → (answer : Answer) (is : IsJobAnswer told asked answer) → Operands words files asked is.matrices
-  accepted asked files understood tells answer is = record { understood = understood; accepted = is.read files tells }
-
-  -- an answer that its form can hold is the outcome
-  written : (asked : Job) (files : Stock) → job words ≡ Ok asked → told ≡ Some files → (answer : Answer) → IsJobAnswer told asked answer → can_hold_answer asked.choices.into answer
-      → IsWritten words files (status_of answer) (text_of_answer asked.choices.into answer)
-  written asked files understood tells answer is held = record {
-    asked = asked;
-    matrices = is.matrices;
-    answer = answer;
-    operands = accepted asked files understood tells answer is;
-    answers = is.answers;
-    held = held;
-    ends = refl;
-    text = refl;
-  }
-
-  -- so it is with the status of the answer
-  pub written_done : (status : Status) (asked : Job) (files : Stock) → job words ≡ Ok asked → told ≡ Some files → (done : IsDone told asked change status)
-      → IsWritten words files status (text_of_answer asked.choices.into done.answer)
-  written_done status asked files understood tells done =
-      let P : Status → Type 0 = λ s. IsWritten words files s (text_of_answer asked.choices.into done.answer) in
-      subst P done.wrote.ends (written asked files understood tells done.answer done.is done.wrote.held)
-
-  -- an answer's status is that of its outcome
-  answered : (files : Stock) (answer : Answer) (text : List ℕ) → IsWritten words files (status_of answer) text → IsAnswered (status_of answer) × Outcome words files (status_of answer) text
-  answered files (Answer.OneMatrix R) text is = (tt, is)
-  answered files (Answer.Lines lines) text is = (tt, is)
-  answered files (Answer.NoAnswer line) text is = (tt, is)
-
-  pub write_front : (status : Status) (files : Stock) → WorkGives told words change status → status ≡ Write → told ≡ Some files
+  pub write_front : (files : Stock) → WorkGives told words change status → status ≡ Write → told ≡ Some files
       → AnswersInPart words files change.out.taken_before change.out.taken_now
-  write_front status files gives is tells =
-      let P : Status → Type 0 = WorkGives told words change in
-      let part : WorkGives told words change Write = subst P is gives in
-      let done = part.gives in
-      let text = text_of_answer part.asked.choices.into done.answer in
-      let outcome = answered files done.answer text (written part.asked files part.understood tells done.answer done.is done.wrote.held) in
-      (status_of done.answer, text, outcome.0, outcome.1, done.wrote.taken)
+  write_front files (inl asked) is tells =
+      let P : Status → Type 0 = JobGives told asked.asked change in
+      job_front told asked.asked change words files asked.understood tells (subst P is asked.gives)
+  write_front files (inr refused) is tells = let other = refused.1 in absurd cc
 
-  pub nothing : (status : Status) → WorkGives told words change status → IsRefused status → NothingWritten change.out
-  nothing Done gives refused = absurd refused
-  nothing No gives refused = absurd refused
-  nothing (Words word) gives refused = gives.1
-  nothing (Text operand place) gives refused = gives.gives.1
-  nothing Shape gives refused = gives.gives.1
-  nothing Limit gives refused = gives.gives.1
-  nothing Read gives refused = gives.gives.0
-  nothing Write gives refused = absurd refused
-  nothing Memory gives refused = gives.gives.1
+  pub nothing : WorkGives told words change status → IsRefused status → NothingWritten change.out
+  nothing (inl asked) is = job_nothing told asked.asked change status asked.gives is
+  nothing (inr refused) is = refused.2.nothing
 
-  pub memory_only : (status : Status) → WorkGives told words change status → status ≡ Memory → IsAsked words × NoReadFailed change
-  memory_only status gives is =
-      let P : Status → Type 0 = WorkGives told words change in
-      let memory : WorkGives told words change Memory = subst P is gives in
-      ((memory.asked, memory.understood), memory.gives.0)
+  pub memory_only : WorkGives told words change status → status ≡ Memory → IsAsked words × NoReadFailed change × NothingWritten change.out
+  memory_only (inl asked) is =
+      let P : Status → Type 0 = JobGives told asked.asked change in
+      let memory : JobGives told asked.asked change Memory = subst P is asked.gives in
+      ((asked.asked, asked.understood), memory.0, memory.1)
+  memory_only (inr refused) is = let other = refused.1 in absurd cc
 
-  pub outcome : (status : Status) (files : Stock) → WorkGives told words change status → IsJudged status → told ≡ Some files
+  pub outcome : (files : Stock) → WorkGives told words change status → IsJudged status → told ≡ Some files
       → Answers words files status change.out.taken_before change.out.taken_now
-  outcome Done files gives judged tells =
-      let done = gives.gives in
-      (text_of_answer gives.asked.choices.into done.answer, written_done Done gives.asked files gives.understood tells done, done.wrote.taken)
-  outcome No files gives judged tells =
-      let done = gives.gives in
-      (text_of_answer gives.asked.choices.into done.answer, written_done No gives.asked files gives.understood tells done, done.wrote.taken)
-  outcome (Words word) files gives judged tells = ([], (gives.2, refl), appends_nothing _ _ gives.1.taken)
-  outcome (Text operand place) files gives judged tells =
-      ([], (record { asked = gives.asked; understood = gives.understood; refused = gives.gives.2 files tells }, refl), appends_nothing _ _ gives.gives.1.taken)
-  outcome Shape files gives judged tells = (
-    [],
-    (
-      elim gives.gives.2 [
-        | inl misfit ↦ inl (record { asked = gives.asked; matrices = misfit.matrices; operands = record { understood = gives.understood; accepted = misfit.read files tells }; misfit = misfit.misfit })
-        | inr unheld ↦ inr (record {
-          asked = gives.asked;
-          matrices = unheld.is.matrices;
-          answer = unheld.answer;
-          operands = accepted gives.asked files gives.understood tells unheld.answer unheld.is;
-          answers = unheld.is.answers;
-          unheld = unheld.unheld;
-        })
-      ],
-      refl,
-    ),
-    appends_nothing _ _ gives.gives.1.taken,
-  )
-  outcome Limit files gives judged tells = (
-    [],
-    (
-      elim gives.gives.2 [
-        | inl operand ↦ inl (operand.0, record { asked = gives.asked; understood = gives.understood; refused = operand.1 files tells })
-        | inr large ↦ inr (record {
-          asked = gives.asked;
-          matrices = large.matrices;
-          operands = record { understood = gives.understood; accepted = large.read files tells };
-          fits = large.passes.fits;
-          large = large.passes.large;
-        })
-      ],
-      refl,
-    ),
-    appends_nothing _ _ gives.gives.1.taken,
-  )
-  outcome Read files gives judged tells = absurd judged
-  outcome Write files gives judged tells = absurd judged
-  outcome Memory files gives judged tells = absurd judged
+  outcome files (inl asked) judged tells = job_outcome told asked.asked change words files asked.understood tells status asked.gives judged
+  outcome files (inr (word, is, refuses)) judged tells =
+      let P : Status → Type 0 = λ s. Answers words files s change.out.taken_before change.out.taken_now in
+      subst P (sym is) ([], (refuses.refused, refl), appends_nothing _ _ refuses.nothing.taken)
 
 -- no front of an empty line is a part of it
 no_part : (old new : Option (List ℕ)) {A : Type 0} → AppendsFront old new [] → A

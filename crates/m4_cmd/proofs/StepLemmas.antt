@@ -1,22 +1,31 @@
 -- From each step of a run to the next: what a file's bytes give of the file, an operand of the operands, and these of
 -- the job.
-use Rattle.std.proofs.Common.{◌≡◌, ℕ, ◌+◌, ◌^◌, List, [], ◌∷◌, ◌++◌, length, Option, Result, Ok, Err, MatchResult, refl, sym, ◌∙◌, subst, arith, inl, inr, ap, append_assoc, append-nil}
-use Rattle.std.specs.Io.KnownBytes.{Appends}
+use Rattle.std.proofs.Common.{◌≡◌, ℕ, ◌+◌, ◌^◌, ◌<◌, ◌≤◌, List, [], ◌∷◌, ◌++◌, length, map, get_or, take, drop, Option, Some, refl, sym, ◌∙◌, subst, arith, inl, inr, ap, append-nil}
+use Rattle.std.specs.List.{All}
+use Rattle.std.proofs.lemmas.List.{drop_more, take_more, take-append-drop, length-take-le, length-map, get_or-map}
+use Rattle.std.proofs.lemmas.List.Elements.{All-append, All-cons, All-nil}
 use Rattle.m4_model.specs.Matrix.{Matrix}
 use Rattle.m4_model.specs.Text.{Fault, BadAt, PastLimit, IsWithinLimits}
-use Rattle.m4_model.specs.Texts.{TextForm, ReadsAs, RefusalAs}
-use Rattle.m4_model.specs.Words.{Job}
-use Rattle.m4_model.specs.Outcome.{Stock, Answer, status_of, can_hold_answer, text_of_answer}
-use Rattle.m4_model.specs.declared.status.Status.{Status}
-use Rattle.m4_model.specs.declared.status.Status.TheVariants.{Done, No, Words, Text, Shape, Limit, Read, Write, Memory}
-use Rattle.m4_io.specs.Outside.{Rose, AppendsFront, WritesAll}
+use Rattle.m4_model.specs.Texts.{ReadsAs, RefusalAs}
+use Rattle.m4_model.specs.Words.{Job, form_of_files, form_of_answer}
+use Rattle.m4_model.specs.Outcome.{Stock, bytes_of, Accepted, Answer, status_of}
+use Rattle.m4_model.specs.declared.choices.Form.{Form}
+use Rattle.m4_model.specs.declared.choices.Form.TheVariants.{Headed, Bare, Jcf}
+use Rattle.m4_io.specs.Outside.{Rose}
 use Rattle.m4_io.specs.Reading.{IsFileOrLong}
 use Rattle.m4_text.specs.Refused.{IsRefusalIn}
 use Rattle.m4_text.proofs.Readers.{reads_short}
-use Rattle.m4_cmd.specs.Steps.{IsReadAs, IsRefusedWith, TextFails, OperandFails, AreReadAs, IsFirstRefused, IsFirstMissing, OperandsFail, AnswerFails, Output, Change, NoReadFailed, Wrote, WriteGives, WritesLine, IsJobAnswer, JobGives, EndsUnwritten}
+use Rattle.m4_cmd.specs.Run.{Output, Change}
+use Rattle.m4_cmd.specs.Steps.{IsReadAs, IsRefusedWith, OperandFails, AreReadAs, OperandsFail, operand_status, AnswerFails, answer_status, NoReadFailed, NothingWritten, Wrote, OutputFails, output_status, IsJobAnswer, JobGives}
+use Rattle.m4_cmd.specs.declared.operands.OperandFault.{OperandFault}
+use Rattle.m4_cmd.specs.declared.operands.OperandFault.TheVariants as operand_faults
+use Rattle.m4_cmd.specs.declared.answer.AnswerFault.{AnswerFault}
+use Rattle.m4_cmd.specs.declared.answer.AnswerFault.TheVariants as answer_faults
+use Rattle.m4_cmd.specs.declared.output.OutputFault.{OutputFault}
+use Rattle.m4_cmd.specs.declared.output.OutputFault.TheVariants as output_faults
 
 -- bytes that are read as a matrix are the whole file
-pub read_is_whole : (told : Option Stock) (form : TextForm) (name bytes : List ℕ) (M : Matrix) → IsFileOrLong told name (2 ^ 29) bytes → ReadsAs form bytes M → IsReadAs told form name M
+pub read_is_whole : (told : Option Stock) (form : Form) (name bytes : List ℕ) (M : Matrix) → IsFileOrLong told name (2 ^ 29) bytes → ReadsAs form bytes M → IsReadAs told form name M
 read_is_whole told form name bytes M file reads = λ files tells.
     let found = file files tells in
     elim found.2 [
@@ -25,7 +34,7 @@ read_is_whole told form name bytes M file reads = λ files tells.
     ]
 
 -- a refused front refuses the file
-front_refuses : (told : Option Stock) (form : TextForm) (name bytes : List ℕ) (fault : Fault) → IsFileOrLong told name (2 ^ 29) bytes → IsRefusalIn form bytes fault
+pub front_refuses : (told : Option Stock) (form : Form) (name bytes : List ℕ) (fault : Fault) → IsFileOrLong told name (2 ^ 29) bytes → IsRefusalIn form bytes fault
     → IsRefusedWith told form name fault
 front_refuses told form name bytes fault file refused = λ files tells.
     let found = file files tells in
@@ -35,34 +44,35 @@ front_refuses told form name bytes fault file refused = λ files tells.
       | inr long ↦ (found.0, found.1, subst P (sym long.1.1) (refused long.1.0 (inr long.0)))
     ]
 
--- what is wrong with a file's bytes is wrong with the operand
-pub text_fails : (told : Option Stock) (form : TextForm) (name bytes : List ℕ) (number before now : ℕ) (status : Status) → IsFileOrLong told name (2 ^ 29) bytes → now ≡ before
-    → TextFails form bytes number status → OperandFails told form name number before now status
-text_fails told form name bytes number before now Done file same fails = fails
-text_fails told form name bytes number before now No file same fails = fails
-text_fails told form name bytes number before now (Words word) file same fails = fails
-text_fails told form name bytes number before now (Text operand place) file same fails = (same, fails.0, front_refuses told form name bytes (BadAt place) file fails.1)
-text_fails told form name bytes number before now Shape file same fails = fails
-text_fails told form name bytes number before now Limit file same fails = (same, front_refuses told form name bytes PastLimit file fails)
-text_fails told form name bytes number before now Read file same fails = absurd fails
-text_fails told form name bytes number before now Write file same fails = fails
-text_fails told form name bytes number before now Memory file same fails = same
+-- what is read has no more columns than the limits let it have
+pub reads_few_cols : (form : Form) (bytes : List ℕ) (M : Matrix) → ReadsAs form bytes M → M.cols ≤ 65536
+reads_few_cols Headed bytes M reads = reads.accepted.limits.cols
+reads_few_cols Bare bytes M reads = reads.accepted.limits.cols
+reads_few_cols Jcf bytes M reads = reads.accepted.limits.cols
+
+-- one more file that is accepted, behind those that are
+accepted_more : (files : Stock) (form : Form) (names : List (List ℕ)) (Ms : List Matrix) (name : List ℕ) (M : Matrix) → Accepted files form names Ms
+    → ((bytes : List ℕ) × (bytes_of files name ≡ Some bytes) × ReadsAs form bytes M) → Accepted files form (names ++ name ∷ []) (Ms ++ M ∷ [])
+accepted_more files form [] [] name M accepted (bytes, found, reads) = (bytes, found, reads, tt)
+accepted_more files form [] (N ∷ Ns) name M accepted last = absurd accepted
+accepted_more files form (n ∷ ns) [] name M accepted last = absurd accepted
+accepted_more files form (n ∷ ns) (N ∷ Ns) name M (bytes, found, reads, others) last = (bytes, found, reads, accepted_more files form ns Ns name M others last)
 
 -- the operand behind those that are accepted fails, and so do the operands
-pub operand_fails : (told : Option Stock) (form : TextForm) (names : List (List ℕ)) (name : List ℕ) (after : List (List ℕ)) (Ms : List Matrix) (number before mid now : ℕ) (status : Status)
-    → AreReadAs told form names Ms → length names + 1 ≡ number → mid ≡ before → OperandFails told form name number mid now status
-    → OperandsFail told form (names ++ name ∷ after) before now status
-operand_fails told form names name after Ms number before mid now Done read place same fails = fails
-operand_fails told form names name after Ms number before mid now No read place same fails = fails
-operand_fails told form names name after Ms number before mid now (Words word) read place same fails = fails
-operand_fails told form names name after Ms number before mid now (Text operand at) read place same fails = (
+operand_fails : (told : Option Stock) (form : Form) (names : List (List ℕ)) (name : List ℕ) (after : List (List ℕ)) (Ms : List Matrix) (number before mid now : ℕ) (fault : OperandFault)
+    → AreReadAs told form names Ms → length names + 1 ≡ number → mid ≡ before → OperandFails told form name number mid now fault
+    → OperandsFail told form (names ++ name ∷ after) before now fault
+operand_fails told form names name after Ms number before mid now operand_faults.Read read place same fails = elim fails [
+  | inl rose ↦ inl (let P : ℕ → Type 0 = λ n. Rose n now in subst P same rose)
+  | inr lacks ↦ inr (lacks.0, lacks.1, record { before = names; name = name; after = after; matrices = Ms; place = refl; accepted = read lacks.0 lacks.1; missing = lacks.2 })
+]
+operand_fails told form names name after Ms number before mid now (operand_faults.Bad operand at) read place same fails = (
   fails.0 ∙ same,
   λ files tells.
       let found = fails.2 files tells in
       record { before = names; name = name; after = after; matrices = Ms; bytes = found.0; place = refl; number = fails.1 ∙ sym place; accepted = read files tells; found = found.1; refused = found.2 },
 )
-operand_fails told form names name after Ms number before mid now Shape read place same fails = fails
-operand_fails told form names name after Ms number before mid now Limit read place same fails = (
+operand_fails told form names name after Ms number before mid now operand_faults.Limit read place same fails = (
   fails.0 ∙ same,
   (
     number,
@@ -71,142 +81,72 @@ operand_fails told form names name after Ms number before mid now Limit read pla
         record { before = names; name = name; after = after; matrices = Ms; bytes = found.0; place = refl; number = sym place; accepted = read files tells; found = found.1; refused = found.2 },
   ),
 )
-operand_fails told form names name after Ms number before mid now Read read place same fails = elim fails [
-  | inl rose ↦ inl (let P : ℕ → Type 0 = λ n. Rose n now in subst P same rose)
-  | inr lacks ↦ inr (lacks.0, lacks.1, record { before = names; name = name; after = after; matrices = Ms; place = refl; accepted = read lacks.0 lacks.1; missing = lacks.2 })
-]
-operand_fails told form names name after Ms number before mid now Write read place same fails = fails
-operand_fails told form names name after Ms number before mid now Memory read place same fails = fails ∙ same
+operand_fails told form names name after Ms number before mid now operand_faults.NoMemory read place same fails = fails ∙ same
 
--- an operand has its place with more behind them too
-placed_more : (names before : List (List ℕ)) (name : List ℕ) (after more : List (List ℕ)) → names ≡ before ++ name ∷ after → names ++ more ≡ before ++ name ∷ (after ++ more)
-placed_more names before name after more place = ap (λ l. l ++ more) place ∙ append_assoc before (name ∷ after) more
+-- the files named up to this index are accepted, and this is the next
+module _ {X : Type 0} (name_of : X → List ℕ) (files_named : List X) (i : ℕ) (last : X) (told here : Option Stock) (form : Form) (Ms : List Matrix) (same_stock : here ≡ told)
+    (within : i < length files_named) (read : AreReadAs told form (take i (map name_of files_named)) Ms) where
+  abbrev names : List (List ℕ)
+  names = map name_of files_named
 
--- the first that is refused is so with more behind them
-first_refused_more : (told : Option Stock) (form : TextForm) (names more : List (List ℕ)) (operand : ℕ) (fault : Fault) → IsFirstRefused told form names operand fault
-    → IsFirstRefused told form (names ++ more) operand fault
-first_refused_more told form names more operand fault refused = λ files tells.
-    let first = refused files tells in
-    record {
-      before = first.before;
-      name = first.name;
-      after = first.after ++ more;
-      matrices = first.matrices;
-      bytes = first.bytes;
-      place = placed_more names first.before first.name first.after more first.place;
-      number = first.number;
-      accepted = first.accepted;
-      found = first.found;
-      refused = first.refused;
-    }
+  abbrev name : List ℕ
+  name = name_of (get_or files_named i last)
 
--- the first that is missing is so with more behind them
-first_missing_more : (told : Option Stock) (form : TextForm) (names more : List (List ℕ)) → IsFirstMissing told form names → IsFirstMissing told form (names ++ more)
-first_missing_more told form names more (files, tells, first) = (
-  files,
-  tells,
-  record {
-    before = first.before;
-    name = first.name;
-    after = first.after ++ more;
-    matrices = first.matrices;
-    place = placed_more names first.before first.name first.after more first.place;
-    accepted = first.accepted;
-    missing = first.missing;
-  },
-)
+  inside : i < length names
+  inside = rw (length-map files_named name_of) within
 
--- operands that fail do so with more behind them
-pub operands_fail_more : (told : Option Stock) (form : TextForm) (names more : List (List ℕ)) (before now : ℕ) (status : Status) → OperandsFail told form names before now status
-    → OperandsFail told form (names ++ more) before now status
-operands_fail_more told form names more before now Done fails = fails
-operands_fail_more told form names more before now No fails = fails
-operands_fail_more told form names more before now (Words word) fails = fails
-operands_fail_more told form names more before now (Text operand place) fails = (fails.0, first_refused_more told form names more operand (BadAt place) fails.1)
-operands_fail_more told form names more before now Shape fails = fails
-operands_fail_more told form names more before now Limit fails = (fails.0, (fails.1.0, first_refused_more told form names more fails.1.0 PastLimit fails.1.1))
-operands_fail_more told form names more before now Read fails = elim fails [
-  | inl rose ↦ inl rose
-  | inr missing ↦ inr (first_missing_more told form names more missing)
-]
-operands_fail_more told form names more before now Write fails = fails
-operands_fail_more told form names more before now Memory fails = fails
+  there : get_or names i [] ≡ name
+  there = get_or-map name_of files_named i last [] within
 
--- no operands are accepted as none
-pub none_read : (told : Option Stock) (form : TextForm) → AreReadAs told form [] []
-none_read told form = λ files tells. tt
+  split : take i names ++ name ∷ drop (i + 1) names ≡ names
+  split = ap (λ l. take i names ++ l) (sym (drop_more names i [] inside ∙ ap (λ n. n ∷ drop (i + 1) names) there)) ∙ take-append-drop i names
 
--- one more operand in front
-pub more_read : (told : Option Stock) (form : TextForm) (name : List ℕ) (names : List (List ℕ)) (M : Matrix) (Ms : List Matrix) → IsReadAs told form name M → AreReadAs told form names Ms
-    → AreReadAs told form (name ∷ names) (M ∷ Ms)
-more_read told form name names M Ms first others = λ files tells.
-    let found = first files tells in (found.0, found.1, found.2, others files tells)
+  one_more : take (i + 1) names ≡ take i names ++ name ∷ []
+  one_more = take_more names i [] inside ∙ ap (λ n. take i names ++ n ∷ []) there
 
--- a job whose operands fail ends unwritten
-pub ends_by_operands : (told : Option Stock) (asked : Job) (before now : ℕ) (status : Status) → OperandsFail told asked.choices.from asked.files before now status → EndsUnwritten told asked before now status
-ends_by_operands told asked before now Done fails = absurd fails
-ends_by_operands told asked before now No fails = absurd fails
-ends_by_operands told asked before now (Words word) fails = absurd fails
-ends_by_operands told asked before now (Text operand place) fails = λ out nothing. (fails.0, nothing, fails.1)
-ends_by_operands told asked before now Shape fails = absurd fails
-ends_by_operands told asked before now Limit fails = λ out nothing. (fails.0, nothing, inl fails.1)
-ends_by_operands told asked before now Read fails = λ out nothing. (nothing, fails)
-ends_by_operands told asked before now Write fails = absurd fails
-ends_by_operands told asked before now Memory fails = λ out nothing. (fails, nothing)
+  pub read_next : (M : Matrix) (all : List Matrix) → all ≡ Ms ++ M ∷ [] → IsReadAs here form name M → AreReadAs told form (take (i + 1) names) all
+  read_next M all pushed reads = λ files tells.
+      subst (λ Ns. Accepted files form (take (i + 1) names) Ns) (sym pushed)
+      (subst (λ ns. Accepted files form ns (Ms ++ M ∷ [])) (sym one_more) (accepted_more files form (take i names) Ms name M (read files tells) (reads files (same_stock ∙ tells))))
 
--- a job whose operands have no answer ends unwritten
-pub ends_by_answer : (told : Option Stock) (asked : Job) (before now : ℕ) (Ms : List Matrix) (status : Status) → now ≡ before → AreReadAs told asked.choices.from asked.files Ms
-    → AnswerFails asked.command Ms status → EndsUnwritten told asked before now status
-ends_by_answer told asked before now Ms Done same read fails = absurd fails
-ends_by_answer told asked before now Ms No same read fails = absurd fails
-ends_by_answer told asked before now Ms (Words word) same read fails = absurd fails
-ends_by_answer told asked before now Ms (Text operand place) same read fails = absurd fails
-ends_by_answer told asked before now Ms Shape same read fails = λ out nothing. (same, nothing, inl (record { matrices = Ms; read = read; misfit = fails }))
-ends_by_answer told asked before now Ms Limit same read fails = λ out nothing. (same, nothing, inr (record { matrices = Ms; read = read; passes = fails }))
-ends_by_answer told asked before now Ms Read same read fails = absurd fails
-ends_by_answer told asked before now Ms Write same read fails = absurd fails
-ends_by_answer told asked before now Ms Memory same read fails = λ out nothing. (same, nothing)
+  pub fails_next : (before mid now : ℕ) (fault : OperandFault) → mid ≡ before → OperandFails here form name (i + 1) mid now fault → OperandsFail told form names before now fault
+  fails_next before mid now fault same fails =
+      let P : Option Stock → Type 0 = λ stock. OperandFails stock form name (i + 1) mid now fault in
+      subst (λ ns. OperandsFail told form ns before now fault) split
+      (operand_fails told form (take i names) name (drop (i + 1) names) Ms (i + 1) before mid now fault read (ap (λ n. n + 1) (length-take-le i names (omega (arith, inside)))) same
+      (subst P same_stock fails))
 
--- a job that has an answer ends as its writing does
-pub ends_by_writing : (told : Option Stock) (asked : Job) (change : Change) (answer : Answer) (status : Status) → NoReadFailed change → IsJobAnswer told asked answer
-    → WriteGives asked.choices.into answer change.out status → JobGives told asked change status
-ends_by_writing told asked change answer Done kept is gives = record { kept = kept; answer = answer; is = is; wrote = gives }
-ends_by_writing told asked change answer No kept is gives = record { kept = kept; answer = answer; is = is; wrote = gives }
-ends_by_writing told asked change answer (Words word) kept is gives = gives
-ends_by_writing told asked change answer (Text operand place) kept is gives = absurd gives
-ends_by_writing told asked change answer Shape kept is gives = (kept, gives.nothing, inr (record { answer = answer; is = is; unheld = gives.unheld }))
-ends_by_writing told asked change answer Limit kept is gives = absurd gives
-ends_by_writing told asked change answer Read kept is gives = absurd gives
-ends_by_writing told asked change answer Write kept is gives = record { kept = kept; answer = answer; is = is; wrote = gives }
-ends_by_writing told asked change answer Memory kept is gives = absurd gives
+-- one more matrix of few columns, behind those that are
+pub few_cols_more : (Ms all : List Matrix) (M : Matrix) → all ≡ Ms ++ M ∷ [] → All (λ N. N.cols ≤ 65536) Ms → M.cols ≤ 65536 → All (λ N. N.cols ≤ 65536) all
+few_cols_more Ms all M pushed few here =
+    let P : Matrix → Type 0 = λ N. N.cols ≤ 65536 in
+    subst (All P) (sym pushed) (All-append P Ms (M ∷ []) few (All-cons P M [] here (All-nil P)))
 
--- what is read is within the limits
-pub reads_limits : (form : TextForm) (bytes : List ℕ) (M : Matrix) → ReadsAs form bytes M → IsWithinLimits M.rows M.cols
-reads_limits TextForm.Headed bytes M reads = reads.accepted.limits
-reads_limits TextForm.Bare bytes M reads = reads.accepted.limits
-reads_limits TextForm.Jcf bytes M reads = reads.accepted.limits
+-- how a job ends, whatever stands outside
+module _ (told : Option Stock) (asked : Job) (change : Change) where
+  -- its operands fail
+  pub ends_by_operands : (fault : OperandFault) → NothingWritten change.out → OperandsFail told (form_of_files asked.choices) asked.files change.read_before change.read_now fault
+      → JobGives told asked change (operand_status fault)
+  ends_by_operands operand_faults.Read nothing fails = (nothing, fails)
+  ends_by_operands (operand_faults.Bad operand at) nothing fails = (fails.0, nothing, fails.1)
+  ends_by_operands operand_faults.Limit nothing fails = (fails.0, nothing, inl fails.1)
+  ends_by_operands operand_faults.NoMemory nothing fails = (fails, nothing)
 
--- an answer that was taken whole is written
-wrote_whole : (form : TextForm) (answer : Answer) (out : Output) → Wrote form answer out (status_of answer) → WriteGives form answer out (status_of answer)
-wrote_whole form (Answer.OneMatrix R) out wrote = wrote
-wrote_whole form (Answer.Lines lines) out wrote = wrote
-wrote_whole form (Answer.NoAnswer line) out wrote = wrote
+  -- its operands have no answer
+  pub ends_by_answer : (Ms : List Matrix) (fault : AnswerFault) → NoReadFailed change → NothingWritten change.out → AreReadAs told (form_of_files asked.choices) asked.files Ms
+      → AnswerFails asked.command Ms fault → JobGives told asked change (answer_status fault)
+  ends_by_answer Ms answer_faults.Shape kept nothing read fails = (kept, nothing, inl (record { matrices = Ms; read = read; misfit = fails }))
+  ends_by_answer Ms answer_faults.Limit kept nothing read fails = (kept, nothing, inr (record { matrices = Ms; read = read; passes = fails }))
+  ends_by_answer Ms answer_faults.NoMemory kept nothing read fails = (kept, nothing)
 
--- the line of an answer is its text
-pub line_written : (form : TextForm) (answer : Answer) (line : List ℕ) (out : Output) (status : Status) → can_hold_answer form answer → line ≡ text_of_answer form answer
-    → WritesLine line (status_of answer) out status → WriteGives form answer out status
-line_written form answer line out status held is writes =
-    let P : Status → Type 0 = WriteGives form answer out in
-    let Q : List ℕ → Type 0 = λ text. Appends out.taken_before out.taken_now text in
-    let R : List ℕ → Type 0 = λ text. AppendsFront out.taken_before out.taken_now text in
-    elim writes [
-      | inl whole ↦ subst P (sym whole.0) (wrote_whole form answer out (record { held = held; ends = refl; faults = whole.1; taken = subst Q is whole.2 }))
-      | inr part ↦ subst P (sym part.0) (record { held = held; faults = part.1; taken = subst R is part.2 })
-    ]
+  -- its answer isn't written whole
+  pub ends_by_output : (answer : Answer) (fault : OutputFault) → NoReadFailed change → IsJobAnswer told asked answer → OutputFails (form_of_answer asked.choices) answer change.out fault
+      → JobGives told asked change (output_status fault)
+  ends_by_output answer output_faults.Shape kept is fails = (kept, fails.nothing, inr (record { answer = answer; is = is; unheld = fails.unheld }))
+  ends_by_output answer output_faults.Write kept is fails = record { kept = kept; answer = answer; is = is; wrote = fails }
 
--- lines that were written are an answer's
-pub lines_written : {E : Type 0} (form : TextForm) (lines : List ℕ) (out : Output) (written : Result (Unit {0}) E) (status : Status)
-    → WritesAll out.taken_before out.taken_now out.before out.now written lines → MatchResult written (λ _. status ≡ Done) (λ _. status ≡ Write)
-    → WriteGives form (Answer.Lines lines) out status
-lines_written form lines out (Ok done) status writes is = let P : Status → Type 0 = WriteGives form (Answer.Lines lines) out in subst P (sym is) (record { held = tt; ends = refl; faults = writes.kept; taken = writes.taken })
-lines_written form lines out (Err fault) status writes is = let P : Status → Type 0 = WriteGives form (Answer.Lines lines) out in subst P (sym is) (record { held = tt; faults = writes.cause; taken = writes.taken })
+  -- its answer is written
+  pub ends_done : (answer : Answer) → NoReadFailed change → IsJobAnswer told asked answer → Wrote (form_of_answer asked.choices) answer change.out → JobGives told asked change (status_of answer)
+  ends_done (Answer.OneMatrix R) kept is wrote = record { kept = kept; answer = Answer.OneMatrix R; is = is; ends = refl; wrote = wrote }
+  ends_done (Answer.Lines lines) kept is wrote = record { kept = kept; answer = Answer.Lines lines; is = is; ends = refl; wrote = wrote }
+  ends_done (Answer.NoAnswer line) kept is wrote = record { kept = kept; answer = Answer.NoAnswer line; is = is; ends = refl; wrote = wrote }

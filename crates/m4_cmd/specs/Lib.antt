@@ -1,9 +1,5 @@
-pub mod Texts
-pub mod Options
-pub mod Progress
-pub mod Job
 pub mod Factors
 pub mod Answer
-pub mod Commands
+pub mod Engine
 pub mod Run
 pub mod Steps

@@ -1,11 +1,24 @@
 -- What `run` says of its answer: the causes of each status, and what was written.
-use Rattle.std.specs.Prelude.{◌≡◌, ℕ, ◌⊎◌, List, Option, Some, Ok}
+use Rattle.std.specs.Prelude.{◌≡◌, ℕ, ◌⊎◌, ◌↔◌, List, Option, Some, Ok, Err}
 use Rattle.std.specs.Io.KnownBytes.{Appends}
 use Rattle.m4_model.specs.Words.{Job, job}
-use Rattle.m4_model.specs.Outcome.{Stock, MissingOperand, Outcome, fault_line}
+use Rattle.m4_model.specs.Outcome.{Stock, MissingOperand, Outcome, code_of, fault_line}
 use Rattle.m4_model.specs.declared.status.Status.{Status}
 use Rattle.m4_model.specs.declared.status.Status.TheVariants.{Done, No, Words, Text, Shape, Limit, Read, Write, Memory}
 use Rattle.m4_io.specs.Outside.{Rose, AppendsFront}
+
+-- What was taken of a stream before and after, and its counts of faults.
+pub record Output : Type 0 where
+  pub before : ℕ
+  pub now : ℕ
+  pub taken_before : Option (List ℕ)
+  pub taken_now : Option (List ℕ)
+
+-- The state of the outside before and after: the counts of faults of the files, and the output.
+pub record Change : Type 0 where
+  pub read_before : ℕ
+  pub read_now : ℕ
+  pub out : Output
 
 -- The words are a job.
 abbrev pub IsAsked : List (List ℕ) → Type 0
@@ -63,3 +76,13 @@ AnswersInPart words files old new = (status : Status) × (written : List ℕ) ×
 abbrev pub Reports : Option (List ℕ) → Option (List ℕ) → ℕ → ℕ → Status → Type 0
 Reports old new before now status =
     (Appends old new (fault_line status) × (now ≡ before)) ⊎ (Rose before now × AppendsFront old new (fault_line status))
+
+-- The exit code is that of a status which the words have over these files, with its line on standard error.
+pub record Ends (words : List (List ℕ)) (told : Option Stock) (change : Change) (err : Output) (code : ℕ) : Type 0 where
+  pub status : Status
+  pub is : code ≡ code_of status
+  pub refused : (word : ℕ) → (status ≡ Words word) ↔ (job words ≡ Err word)
+  pub read : status ≡ Read → Rose change.read_before change.read_now ⊎ LacksOperand told words
+  pub write : status ≡ Write → Rose change.out.before change.out.now
+  pub outcome : (files : Stock) → IsJudged status → told ≡ Some files → Answers words files status change.out.taken_before change.out.taken_now
+  pub line : Reports err.taken_before err.taken_now err.before err.now status

@@ -1,16 +1,19 @@
-ghost use Rattle.std.specs.Prelude.{◌≡◌, MatchResult};
-ghost use Rattle.m4_model.specs.Outcome.{OneMatrix};
-ghost use Rattle.m4_text.specs.Forms.{text_form};
-ghost use Rattle.m4_cmd.specs.Answer.{answer_told};
-ghost use Rattle.m4_cmd.specs.Steps.{WriteGives, WritesLine};
+//! What a command answers, or why it has no answer.
 
+ghost use Rattle.std.specs.Prelude.{◌≡◌, ◌≤◌, IfOk, IfErr, All};
+ghost use Rattle.m4_model.specs.Outcome.{HasAnswer, status_of};
+ghost use Rattle.m4_cmd.specs.Answer.{answer_told};
+ghost use Rattle.m4_cmd.specs.Steps.{AnswerFails, answer_status};
+
+use crate::bounds::in_known_bounds;
+use crate::compute::compute;
 use crate::factors::{PleFactors, PluqFactors};
-use crate::factors_text::{write_ple, write_pluq};
-use crate::line::{Line, plain_line, rank_line};
-use m4_io::{Failed, Sink, write_whole};
-use m4_model::Status;
+use crate::fits::fits;
+use crate::method::Method;
+use m4_model::{Command, NoMemory, Status};
 use m4_mzd::Mzd;
-use m4_text::{Form, WriteFault, can_write, write_as};
+use m4_text::MOST_COLS;
+use std::alloc::Global;
 
 /// What a command answers.
 #[derive(Drop)]
@@ -29,64 +32,69 @@ pub(crate) enum Answer {
     NoSolution,
 }
 
-/// Writes the text of an answer. One matrix is written in this form, where the form can hold it.
-pub(crate) fn write_answer<O: Sink>(answer: &Answer, form: Form, out: &mut O) -> Status
-    ensures { WriteGives (text_form form) (answer_told answer.now) (record {
-      before = O.faults out.old;
-      now = O.faults out.new;
-      taken_before = O.taken out.old;
-      taken_now = O.taken out.new;
-    }) result }
-{
-    match answer {
-        Answer::Matrix(matrix) => write_matrix(matrix, form, out),
-        Answer::Rank(rank) => write_line(&rank_line(u64::from(*rank)), out, Status::Done),
-        Answer::Ple(factors) => done_if(write_ple(factors, out)),
-        Answer::Pluq(factors) => done_if(write_pluq(factors, out)),
-        Answer::Singular => write_line(&plain_line("singular\n"), out, Status::No),
-        Answer::NoSolution => write_line(&plain_line("no solution\n"), out, Status::No),
+impl Answer {
+    /// The status of a run that writes the answer.
+    pub(crate) fn status(&self) -> Status
+        ensures { result ≡ status_of (answer_told self.now) }
+    {
+        match self {
+            Answer::Singular | Answer::NoSolution => Status::No,
+            _ => Status::Done,
+        }
     }
 }
 
-/// Writes a line, which has this status.
-fn write_line<O: Sink>(line: &Line, out: &mut O, status: Status) -> Status
-    ensures { WritesLine line.now.bytes status (record {
-      before = O.faults out.old;
-      now = O.faults out.new;
-      taken_before = O.taken out.old;
-      taken_now = O.taken out.new;
-    }) result }
-{
-    match write_whole(out, line.as_bytes()) {
-        Ok(()) => status,
-        Err(Failed) => Status::Write,
+/// Why a command has no answer.
+#[derive(Clone, Copy, Debug, PartialEq, Eq)]
+pub(crate) enum AnswerFault {
+    /// The operands' shapes do not fit.
+    Shape,
+    /// The answer passes a limit.
+    Limit,
+    /// Memory was wanting.
+    NoMemory,
+}
+
+impl AnswerFault {
+    /// The status of a run that ends so.
+    pub(crate) fn status(self) -> Status
+        ensures { result ≡ answer_status self }
+    {
+        match self {
+            AnswerFault::Shape => Status::Shape,
+            AnswerFault::Limit => Status::Limit,
+            AnswerFault::NoMemory => Status::Memory,
+        }
     }
 }
 
-/// Done where the text was written, and else a write that failed.
-fn done_if(written: Result<(), WriteFault>) -> Status
-    ensures { MatchResult written (λ _. result ≡ Status.Done) (λ _. result ≡ Status.Write) }
-{
-    match written {
-        Ok(()) => Status::Done,
-        Err(WriteFault::Failed) => Status::Write,
+impl From<NoMemory> for AnswerFault {
+    ghost use Rattle.m4_cmd.specs.declared.answer.AnswerFault.TheVariants.{NoMemory as Wanting};
+
+    ghost from_gives = { λ _ fault. fault ≡ Wanting };
+
+    fn from(_error: NoMemory) -> AnswerFault {
+        AnswerFault::NoMemory
     }
 }
 
-/// Writes the text of one matrix in this form, where the form can hold it.
-fn write_matrix<O: Sink>(matrix: &Mzd, form: Form, out: &mut O) -> Status
-    ensures { WriteGives (text_form form) (OneMatrix matrix.now) (record {
-      before = O.faults out.old;
-      now = O.faults out.new;
-      taken_before = O.taken out.old;
-      taken_now = O.taken out.new;
-    }) result }
+/// The answer of a command to these operands: where their shapes fit, and the answer's is within the limits. The first
+/// operand is taken.
+pub(crate) fn answer_of(
+    alloc: Global,
+    command: Command,
+    method: Method,
+    operands: &mut [Mzd],
+) -> Result<Answer, AnswerFault>
+    requires few_cols { All (λ M. M.cols ≤ MOST_COLS) operands.old }
+    ensures good { IfOk result (λ answer. HasAnswer command operands.old (answer_told answer)) }
+    ensures fails { IfErr result (AnswerFails command operands.old) }
 {
-    if !can_write(matrix, form) {
-        return Status::Shape;
+    if !fits(command, operands) {
+        return Err(AnswerFault::Shape);
     }
-    match write_as(matrix, form, out) {
-        Ok(()) => Status::Done,
-        Err(WriteFault::Failed) => Status::Write,
+    if !in_known_bounds(command, operands) {
+        return Err(AnswerFault::Limit);
     }
+    compute(alloc, command, method, operands)
 }

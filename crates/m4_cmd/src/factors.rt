@@ -1,23 +1,17 @@
 //! The factors of a matrix: `ple` and `pluq`.
 
-ghost use Rattle.std.specs.Prelude.{◌≡◌, ◌≤◌, ◌^◌, IfOk, IfErr, [], ◌∷◌, length};
-ghost use Rattle.m4_model.specs.Outcome.{HasAnswer};
-ghost use Rattle.m4_model.specs.Words.{Command};
+ghost use Rattle.std.specs.Prelude.{◌≡◌, ◌≤◌, ◌^◌, IfOk, length};
 ghost use Rattle.m4_solve.specs.Context.{Serves};
-ghost use Rattle.m4_cmd.specs.Answer.{answer_told};
+ghost use Rattle.m4_cmd.specs.Engine.{engine_limits};
 ghost use Rattle.m4_cmd.specs.Factors.{IsPleOf, IsPluqOf};
-ghost use Rattle.m4_cmd.specs.Steps.{AnswerFails};
 
-use crate::answer::Answer;
-use crate::choices::Choices;
-use crate::context::context;
-use m4_model::{NoMemory, Status};
-use m4_mul::Table;
+use crate::engine::{Engine, context};
+use crate::method::Method;
+use m4_model::NoMemory;
 use m4_mzd::{AddMul, Mzd};
 use m4_perm::Perm;
 use m4_ple::{Factors, ple, ple_factors, pluq, pluq_factors};
 use m4_solve::Ctx;
-use m4_text::within_limits;
 use std::alloc::Global;
 
 /// A PLE of a matrix: row `rows[i]` of the matrix is row i of the product of the factors.
@@ -40,71 +34,42 @@ pub(crate) struct PluqFactors {
 
 /// What the factors of a matrix are made in.
 #[derive(Drop)]
-struct Room {
+struct Workspace {
     /// Room for the exchanges of rows.
     exchanges: Vec<u32>,
     /// Room for the pivot columns, or for the exchanges of columns.
     pivots: Vec<u32>,
-    context: Ctx<Table>,
+    context: Ctx<Engine>,
 }
 
-impl Room {
-    /// Room for a matrix of so many rows and columns.
-    fn new(alloc: Global, choices: Choices, rows: u32, cols: u32) -> Result<Room, NoMemory>
-        requires { cols ≤ 2 ^ 24 }
-        ensures exchanges { IfOk result (λ room. length room.exchanges.items ≡ rows) }
-        ensures pivots { IfOk result (λ room. length room.pivots.items ≡ rows) }
-        ensures engine { IfOk result (λ room. room.context.engine.cols ≡ cols) }
-        ensures tables { IfOk result (λ room. room.context.tables.entries.cols ≡ cols) }
-        ensures cutoff { IfOk result (λ room. 64 ≤ room.context.cutoff) }
+impl Workspace {
+    /// What the factors of a matrix of so many rows and columns are made in.
+    fn new(alloc: Global, method: Method, rows: u32, cols: u32) -> Result<Workspace, NoMemory>
+        requires few_rows { rows ≤ 2 ^ 24 }
+        requires few_cols { cols ≤ 2 ^ 24 }
+        ensures exchanges { IfOk result (λ space. length space.exchanges.items ≡ rows) }
+        ensures pivots { IfOk result (λ space. length space.pivots.items ≡ rows) }
+        ensures serves { IfOk result (λ space. Serves (engine_limits space.context.engine) space.context.cutoff rows cols) }
     {
-        Ok(Room {
+        Ok(Workspace {
             exchanges: vec![in alloc; 0u32; rows as usize]?,
             pivots: vec![in alloc; 0u32; rows as usize]?,
-            context: context(alloc, choices, cols)?,
+            context: context(alloc, method, rows, cols)?,
         })
     }
 }
 
-/// The answer of `ple`, where the factor L is within the limits.
-pub(crate) fn ple_answer(alloc: Global, choices: Choices, a: Mzd) -> Result<Answer, Status>
-    ensures good { IfOk result (λ answer. HasAnswer Command.Ple (a ∷ []) (answer_told answer)) }
-    ensures fails { IfErr result (AnswerFails Command.Ple (a ∷ [])) }
-{
-    if !within_limits(a.rows(), a.rows()) {
-        return Err(Status::Limit);
-    }
-    match ple_of(alloc, choices, a) {
-        Ok(factors) => Ok(Answer::Ple(factors)),
-        Err(NoMemory) => Err(Status::Memory),
-    }
-}
-
-/// The answer of `pluq`, where the factor L is within the limits.
-pub(crate) fn pluq_answer(alloc: Global, choices: Choices, a: Mzd) -> Result<Answer, Status>
-    ensures good { IfOk result (λ answer. HasAnswer Command.Pluq (a ∷ []) (answer_told answer)) }
-    ensures fails { IfErr result (AnswerFails Command.Pluq (a ∷ [])) }
-{
-    if !within_limits(a.rows(), a.rows()) {
-        return Err(Status::Limit);
-    }
-    match pluq_of(alloc, choices, a) {
-        Ok(factors) => Ok(Answer::Pluq(factors)),
-        Err(NoMemory) => Err(Status::Memory),
-    }
-}
-
 /// A PLE of a matrix.
-fn ple_of(alloc: Global, choices: Choices, a: Mzd) -> Result<PleFactors, NoMemory>
+pub(crate) fn ple_of(alloc: Global, method: Method, a: Mzd) -> Result<PleFactors, NoMemory>
     ensures { IfOk result (IsPleOf a) }
 {
-    let mut room = Room::new(alloc, choices, a.rows(), a.cols())?;
+    let mut space = Workspace::new(alloc, method, a.rows(), a.cols())?;
     Ok(ple_in_room(
         alloc,
         a,
-        &mut room.exchanges,
-        &mut room.pivots,
-        &mut room.context,
+        &mut space.exchanges,
+        &mut space.pivots,
+        &mut space.context,
     )?)
 }
 
@@ -118,7 +83,7 @@ fn ple_in_room<M: AddMul>(
 ) -> Result<PleFactors, NoMemory>
     requires exchanges { length exchanges.old ≡ a.rows }
     requires pivots { length pivots.old ≡ a.rows }
-    requires serves { Serves (M.limits context.old.engine) context.old.tables context.old.cutoff a.rows a.cols }
+    requires serves { Serves (M.limits context.old.engine) context.old.cutoff a.rows a.cols }
     ensures { IfOk result (IsPleOf a) }
 {
     let mut held = a;
@@ -128,7 +93,6 @@ fn ple_in_room<M: AddMul>(
         exchanges,
         pivots,
         &mut context.engine,
-        &mut context.tables,
         context.cutoff,
     );
     held.put_all(all, home);
@@ -141,16 +105,16 @@ fn ple_in_room<M: AddMul>(
 }
 
 /// A PLUQ of a matrix.
-fn pluq_of(alloc: Global, choices: Choices, a: Mzd) -> Result<PluqFactors, NoMemory>
+pub(crate) fn pluq_of(alloc: Global, method: Method, a: Mzd) -> Result<PluqFactors, NoMemory>
     ensures { IfOk result (IsPluqOf a) }
 {
-    let mut room = Room::new(alloc, choices, a.rows(), a.cols())?;
+    let mut space = Workspace::new(alloc, method, a.rows(), a.cols())?;
     Ok(pluq_in_room(
         alloc,
         a,
-        &mut room.exchanges,
-        &mut room.pivots,
-        &mut room.context,
+        &mut space.exchanges,
+        &mut space.pivots,
+        &mut space.context,
     )?)
 }
 
@@ -164,7 +128,7 @@ fn pluq_in_room<M: AddMul>(
 ) -> Result<PluqFactors, NoMemory>
     requires exchanges { length exchanges.old ≡ a.rows }
     requires pivots { length pivots.old ≡ a.rows }
-    requires serves { Serves (M.limits context.old.engine) context.old.tables context.old.cutoff a.rows a.cols }
+    requires serves { Serves (M.limits context.old.engine) context.old.cutoff a.rows a.cols }
     ensures { IfOk result (IsPluqOf a) }
 {
     let mut held = a;
@@ -174,7 +138,6 @@ fn pluq_in_room<M: AddMul>(
         exchanges,
         pivots,
         &mut context.engine,
-        &mut context.tables,
         context.cutoff,
     );
     held.put_all(all, home);

@@ -1,29 +1,27 @@
-//! The command line of m4lin: its words, and `run`, which does what they ask for.
+//! The command line of m4lin: `run`, which does what its words ask for, and `exit_code`, which ends so.
 #![tactic(auto)]
 
 mod answer;
-mod choices;
-mod commands;
-mod context;
+mod bounds;
+mod compute;
+mod engine;
+mod exit;
 mod factors;
 mod factors_text;
 mod fault_line;
+mod fits;
 mod gate;
 mod line;
-mod number;
-mod operand;
-mod options;
+mod method;
+mod operands;
+mod output;
 mod product;
 mod program;
-mod progress;
 mod shape;
 mod systems;
-mod words;
 
-pub use choices::{Algo, Choices};
+pub use exit::exit_code;
 pub use gate::{Gate, OpenGate};
 pub use m4_io::{Failed, FileShelf, MemShelf, MemSink, Shelf, Sink, StreamSink};
 pub use m4_model::Status;
-pub use m4_text::Form;
 pub use program::run;
-pub use words::{Job, Task, WordFault, job_of};

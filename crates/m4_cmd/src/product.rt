@@ -1,104 +1,26 @@
-//! Products: `mul` and `addmul`, by an engine.
+//! Products, by the engine of a method.
 
-ghost use Rattle.std.specs.Prelude.{◌≡◌, ◌+◌, ◌%◌, IfOk, IfErr, OnOk, [], ◌∷◌};
+ghost use Rattle.std.specs.Prelude.{◌≡◌, ◌+◌, ◌%◌, IfOk};
 ghost use Rattle.m4_model.specs.Matrix.{added, product};
-ghost use Rattle.m4_model.specs.Outcome.{HasAnswer, HasRoom};
+ghost use Rattle.m4_model.specs.Outcome.{HasRoom, with_product};
 ghost use Rattle.m4_model.specs.Shapes.{cut, replace};
-ghost use Rattle.m4_model.specs.Words.{Mul, Addmul};
 ghost use Rattle.m4_mzd.specs.Reach.{IsReached};
 ghost use Rattle.m4_mzd.specs.Rectangles.{IsInside};
-ghost use Rattle.m4_cmd.specs.Answer.{answer_told};
-ghost use Rattle.m4_cmd.specs.Steps.{AnswerFails};
 
-use crate::answer::Answer;
-use crate::choices::{Algo, Choices};
-use m4_model::{NoMemory, Status};
-use m4_mul::{Plain, Table};
+use crate::engine::Engine;
+use crate::method::Method;
+use m4_model::NoMemory;
 use m4_mzd::{AddMul, Mzd, Rect};
-use m4_text::within_limits;
 use std::alloc::Global;
 
-/// The answer of `mul`: the product, where the shapes fit and it is within the limits.
-pub(crate) fn mul_answer(
-    alloc: Global,
-    choices: Choices,
-    a: &Mzd,
-    b: &Mzd,
-) -> Result<Answer, Status>
-    ensures good { IfOk result (λ answer. HasAnswer Mul (a.now ∷ b.now ∷ []) (answer_told answer)) }
-    ensures fails { IfErr result (AnswerFails Mul (a.now ∷ b.now ∷ [])) }
-{
-    if a.cols() != b.rows() {
-        return Err(Status::Shape);
-    }
-    if !within_limits(a.rows(), b.cols()) {
-        return Err(Status::Limit);
-    }
-    match multiply(alloc, choices, a, b) {
-        Ok(product) => Ok(Answer::Matrix(product)),
-        Err(NoMemory) => Err(Status::Memory),
-    }
-}
-
-/// The answer of `addmul`: `c` with the product of `a` and `b` added to the rectangle of its shape at row `r0` and column
-/// `c0`, where the shapes fit and the rectangle begins at a word and lies within `c`.
-pub(crate) fn addmul_answer(
-    alloc: Global,
-    choices: Choices,
-    c: Mzd,
-    r0: u32,
-    c0: u32,
-    a: &Mzd,
-    b: &Mzd,
-) -> Result<Answer, Status>
-    ensures good { IfOk result (λ answer. HasAnswer (Addmul r0 c0) (c ∷ a.now ∷ b.now ∷ []) (answer_told answer)) }
-    ensures fails { IfErr result (AnswerFails (Addmul r0 c0) (c ∷ a.now ∷ b.now ∷ [])) }
-{
-    if a.cols() != b.rows() {
-        return Err(Status::Shape);
-    }
-    let rect = room_for(&c, r0, c0, a.rows(), b.cols())?;
-    let mut sum = c;
-    match add_product(alloc, choices, &mut sum, rect, a, b) {
-        Ok(()) => Ok(Answer::Matrix(sum)),
-        Err(NoMemory) => Err(Status::Memory),
-    }
-}
-
-/// The rectangle of `c` of so many rows and columns at row `r0` and column `c0`, where it begins at a word and lies within
-/// `c`.
-fn room_for(c: &Mzd, r0: u32, c0: u32, rows: u32, cols: u32) -> Result<Rect, Status>
-    ensures room { IfOk result (λ rect. HasRoom c.now r0 c0 rows cols) }
-    ensures rect { IfOk result (λ rect. rect ≡ record { r0 = r0; c0 = c0; r1 = r0 + rows; c1 = c0 + cols }) }
-    ensures shape { IfErr result (λ status. status ≡ Status.Shape) }
-    ensures none { IfErr result (λ status. HasRoom c.now r0 c0 rows cols → ⊥) }
-{
-    let (high, wide) = (c.rows(), c.cols());
-    if r0 > high || rows > high - r0 || c0 > wide || cols > wide - c0 || c0 % 64 != 0 {
-        return Err(Status::Shape);
-    }
-    Ok(Rect {
-        r0,
-        c0,
-        r1: r0 + rows,
-        c1: c0 + cols,
-    })
-}
-
-/// The product of two matrices, the first of as many columns as the second has rows, by the engine that is chosen.
-fn multiply(alloc: Global, choices: Choices, a: &Mzd, b: &Mzd) -> Result<Mzd, NoMemory>
+/// The product of two matrices, the first of as many columns as the second has rows.
+pub(crate) fn multiply(alloc: Global, method: Method, a: &Mzd, b: &Mzd) -> Result<Mzd, NoMemory>
     requires { a.now.cols ≡ b.now.rows }
     ensures { IfOk result (λ c. c ≡ product a.now b.now) }
 {
     let _rows = a.rows();
-    let cols = b.cols();
-    match choices.algo {
-        Algo::Plain => multiply_by(alloc, &mut Plain, a, b),
-        Algo::Table => {
-            let mut engine = Table::new(alloc, cols, choices.k, choices.tables)?;
-            multiply_by(alloc, &mut engine, a, b)
-        }
-    }
+    let mut engine = Engine::new(alloc, method, b.cols())?;
+    multiply_by(alloc, &mut engine, a, b)
 }
 
 /// The product of two matrices by an engine.
@@ -114,32 +36,32 @@ fn multiply_by<E: AddMul>(alloc: Global, engine: &mut E, a: &Mzd, b: &Mzd) -> Re
     Ok(c)
 }
 
-/// Adds the product of `a` and `b` to a rectangle of `c` of its shape, by the engine that is chosen. All else stays.
-fn add_product(
+/// `c` with the product of `a` and `b` added to the rectangle of its shape at a place, a row and a column, where it begins
+/// at a word and lies within `c`. All else stays.
+pub(crate) fn with_product(
     alloc: Global,
-    choices: Choices,
-    c: &mut Mzd,
-    rect: Rect,
+    method: Method,
+    c: Mzd,
+    place: (u32, u32),
     a: &Mzd,
     b: &Mzd,
-) -> Result<(), NoMemory>
-    requires inside { IsInside rect c.old.rows c.old.cols }
-    requires whole_words { rect.c0 % 64 ≡ 0 }
+) -> Result<Mzd, NoMemory>
     requires inner { a.now.cols ≡ b.now.rows }
-    requires rows { rect.r1 ≡ rect.r0 + a.now.rows }
-    requires cols { rect.c1 ≡ rect.c0 + b.now.cols }
-    ensures { OnOk result (c.new ≡ replace c.old rect.r0 rect.c0 (added (cut c.old rect.r0 rect.c0 rect.r1 rect.c1) (product a.now b.now))) }
+    requires room { HasRoom c place.0 place.1 a.now.rows b.now.cols }
+    ensures { IfOk result (λ sum. sum ≡ with_product c place.0 place.1 a.now b.now) }
 {
-    let _rows = a.rows();
-    let cols = b.cols();
-    match choices.algo {
-        Algo::Plain => add_product_by(&mut Plain, c, rect, a, b),
-        Algo::Table => {
-            let mut engine = Table::new(alloc, cols, choices.k, choices.tables)?;
-            add_product_by(&mut engine, c, rect, a, b);
-        }
-    }
-    Ok(())
+    let (row, col) = place;
+    let _shape = c.rows();
+    let rect = Rect {
+        r0: row,
+        c0: col,
+        r1: row + a.rows(),
+        c1: col + b.cols(),
+    };
+    let mut engine = Engine::new(alloc, method, b.cols())?;
+    let mut sum = c;
+    add_product_by(&mut engine, &mut sum, rect, a, b);
+    Ok(sum)
 }
 
 /// Adds the product of `a` and `b` to a rectangle of `c` of its shape, by an engine. All else stays.

@@ -3,18 +3,20 @@ ghost use Rattle.std.specs.Io.KnownBytes.{Keeps};
 ghost use Rattle.m4_model.specs.Words.{job};
 ghost use Rattle.m4_model.specs.Outcome.{Stock};
 ghost use Rattle.m4_io.specs.Outside.{Rose};
-ghost use Rattle.m4_cmd.specs.Texts.{texts};
-ghost use Rattle.m4_cmd.specs.Job.{job_told};
+ghost use Rattle.m4_words.specs.Job.{job_told};
+ghost use Rattle.m4_words.specs.Texts.{texts};
 ghost use Rattle.m4_cmd.specs.Run.{IsAsked, IsAnswered, IsJudged, IsRefused, LacksOperand, Answers, AnswersInPart, Reports};
 ghost use Rattle.m4_cmd.specs.Steps.{JobGives, WorkGives};
 
-use crate::answer::write_answer;
-use crate::commands::answer_of;
+use crate::answer::answer_of;
 use crate::fault_line::line_of;
 use crate::gate::Gate;
-use crate::words::{Job, job_of};
+use crate::method::Method;
+use crate::operands::read_operands;
+use crate::output::write_answer;
 use m4_io::{Shelf, Sink, write_whole};
 use m4_model::Status;
+use m4_words::{Job, job_of};
 use std::alloc::Global;
 
 /// Does what the words ask for: reads the operands, computes the answer, writes its text to `out`, and a line on
@@ -93,7 +95,7 @@ fn work<S: Shelf, O: Sink>(alloc: Global, words: &[String], shelf: &mut S, out: 
     }
 }
 
-/// Does a job: computes its answer, and writes it.
+/// Does a job: reads its operands, computes its answer, and writes it.
 fn perform<S: Shelf, O: Sink>(alloc: Global, job: &Job, shelf: &mut S, out: &mut O) -> Status
     ensures stock { S.stock shelf.new ≡ S.stock shelf.old }
     ensures gives { JobGives (S.stock shelf.old) (job_told job.now) (record {
@@ -107,9 +109,19 @@ fn perform<S: Shelf, O: Sink>(alloc: Global, job: &Job, shelf: &mut S, out: &mut
       };
     }) result }
 {
-    match answer_of(alloc, job, shelf) {
-        Ok(answer) => write_answer(&answer, job.choices.into, out),
-        Err(status) => status,
+    let form = job.choices.form_of_files();
+    let mut operands = match read_operands(alloc, shelf, form, job.files.as_slice()) {
+        Ok(operands) => operands,
+        Err(fault) => return fault.status(),
+    };
+    let method = Method::of(&job.choices);
+    let answer = match answer_of(alloc, job.command, method, &mut operands) {
+        Ok(answer) => answer,
+        Err(fault) => return fault.status(),
+    };
+    match write_answer(&answer, job.choices.form_of_answer(), out) {
+        Ok(()) => answer.status(),
+        Err(fault) => fault.status(),
     }
 }
 

@@ -1,0 +1,52 @@
+//! Whether the operands' shapes fit a command.
+
+ghost use Rattle.std.specs.Prelude.{◌↔◌, IsTrue};
+ghost use Rattle.m4_model.specs.Outcome.{Fits, HasRectangle, HasRoom};
+
+use crate::bounds::BITS;
+use m4_model::Command;
+use m4_mzd::Mzd;
+
+/// Whether the operands are as many as the command takes, and their shapes fit it.
+pub(crate) fn fits(command: Command, operands: &[Mzd]) -> bool
+    ensures { IsTrue result ↔ Fits command operands.now }
+{
+    match (command, operands) {
+        (Command::Mul, [a, b]) => a.cols() == b.rows(),
+        (Command::Addmul { row, col }, [c, a, b]) => {
+            a.cols() == b.rows() && has_room(c, row, col, a.rows(), b.cols())
+        }
+        (Command::Add, [a, b]) => a.rows() == b.rows() && a.cols() == b.cols(),
+        (Command::Stack, [a, b]) => a.cols() == b.cols(),
+        (Command::Augment | Command::Solve, [a, b]) => a.rows() == b.rows(),
+        (
+            Command::Sub {
+                row,
+                col,
+                row_end,
+                col_end,
+            },
+            [a],
+        ) => has_rectangle(a, row, col, row_end, col_end),
+        (Command::Inverse, [a]) => a.cols() == a.rows(),
+        (Command::Transpose | Command::Convert | Command::Rank, [_]) => true,
+        (Command::Echelon | Command::Kernel | Command::Ple | Command::Pluq, [_]) => true,
+        _ => false,
+    }
+}
+
+/// Whether a rectangle of so many rows and columns at this place of `c` begins at a word's first column, and lies within
+/// `c`.
+fn has_room(c: &Mzd, row: u32, col: u32, rows: u32, cols: u32) -> bool
+    ensures { IsTrue result ↔ HasRoom c.now row col rows cols }
+{
+    let (high, wide) = (c.rows(), c.cols());
+    row <= high && rows <= high - row && col <= wide && cols <= wide - col && col * BITS % 64 == 0
+}
+
+/// Whether rows `row` to `row_end - 1` and columns `col` to `col_end - 1` are those of a rectangle of `a`.
+fn has_rectangle(a: &Mzd, row: u32, col: u32, row_end: u32, col_end: u32) -> bool
+    ensures { IsTrue result ↔ HasRectangle a.now row col row_end col_end }
+{
+    row <= row_end && col <= col_end && row_end <= a.rows() && col_end <= a.cols()
+}
