@@ -4,7 +4,7 @@
 #[cfg(test)]
 mod tests;
 
-use m4_cmd::{FileShelf, OpenGate, Status, StreamSink, run};
+use m4_cmd::{FileShelf, OpenGate, Status, StreamSink, exit_code};
 use std::env::Env;
 use std::io::ErrorKind;
 use std::process::ExitCode;
@@ -18,15 +18,14 @@ fn main(rt: HostRuntime) -> ExitCode {
     let mut files = FileShelf::new(&rt);
     let mut out = StreamSink::new(rt.stdout());
     let mut err = StreamSink::new(rt.stderr());
-    let status = run(
+    ExitCode::from(exit_code(
         rt.alloc(),
         &words,
         &mut files,
         &mut out,
         &mut err,
         &OpenGate,
-    );
-    ExitCode::from(status.code())
+    ))
 }
 
 /// The words after the program's name. Where one is no UTF-8 or memory is wanting, the status to end with.

@@ -1,6 +1,6 @@
 //! Random matrices and systems of equations: the answers meet their definitions, whatever engine is chosen.
 
-use super::{AMPLE, ENGINES, Outside, run_on};
+use super::{AMPLE, ENGINES, Outside, run_on, run_over};
 use m4_cmd::Status;
 use m4_model::NoMemory;
 use rand_core::{Rng, SeedableRng};
@@ -10,9 +10,9 @@ use std::process::Abort;
 use std::str::Lines;
 use std::test::Fail;
 
-/// Room for the text of two matrices of 300 x 300.
+/// Room for the text of two matrices of 1030 x 1030.
 const ROOMY: Outside<'static> = Outside {
-    out_room: 1 << 18,
+    out_room: 1 << 22,
     ..AMPLE
 };
 
@@ -95,7 +95,7 @@ fn rank_of(rt: &impl Abort, alloc: Global, a: &str) -> Result<u64, NoMemory> {
 }
 
 /// The rows and columns of a matrix that is the product of two random ones, and the columns of the first.
-const SHAPES: [(u32, u32, u32); 9] = [
+const SHAPES: [(u32, u32, u32); 10] = [
     (1, 1, 1),
     (3, 2, 0),
     (63, 64, 64),
@@ -105,7 +105,17 @@ const SHAPES: [(u32, u32, u32); 9] = [
     (130, 100, 70),
     (100, 130, 130),
     (300, 300, 290),
+    (1030, 70, 64),
 ];
+
+/// Sees that a matrix which should be random is: its rank is hardly less than this number.
+fn assert_real(rt: &impl Abort, alloc: Global, a: &str, most: u32) -> Result<(), NoMemory> {
+    let (_, line) = written(rt, alloc, &["rank", "A"], a, "")?;
+    let digits = line.strip_prefix("rank ").expect(rt, "a line of a rank");
+    let rank: u32 = digits.trim_end().parse().expect(rt, "a number");
+    assert!(rt; rank <= most && most - rank < 8);
+    Ok(())
+}
 
 /// A random matrix of this shape.
 fn matrix(
@@ -116,7 +126,9 @@ fn matrix(
 ) -> Result<String, NoMemory> {
     let left = random(alloc, source, rows, inner)?;
     let right = random(alloc, source, inner, cols)?;
-    done(rt, alloc, &["mul", "A", "B"], &left, &right)
+    let product = done(rt, alloc, &["mul", "A", "B"], &left, &right)?;
+    assert_real(rt, alloc, &product, rows.min(cols).min(inner))?;
+    Ok(product)
 }
 
 /// Solves the equations of this matrix and right side, and sees that the solution meets them.
@@ -214,8 +226,9 @@ fn assert_inverse(rt: &impl Abort, alloc: Global, a: &str, n: u32) -> Result<(),
 fn inverses(rt: HostRuntime) -> Result<(), Fail> {
     let alloc = rt.alloc();
     let mut source = Xoshiro256PlusPlus::seed_from_u64(3);
-    for n in [1, 2, 63, 64, 65, 130, 300] {
+    for n in [1, 2, 63, 64, 65, 130, 300, 1030] {
         let a = random(alloc, &mut source, n, n)?;
+        assert_real(&rt, alloc, &a, n)?;
         assert_inverse(&rt, alloc, &a, n)?;
     }
     Ok(())
@@ -374,6 +387,54 @@ fn factors(rt: HostRuntime) -> Result<(), Fail> {
             pluq.columns.get(..ple.columns.len()),
             Some(ple.columns.as_slice())
         );
+    }
+    Ok(())
+}
+
+/// What is cut of a matrix: the rows and columns between these.
+fn cut(rt: &impl Abort, alloc: Global, a: &str, corners: [&str; 4]) -> Result<String, NoMemory> {
+    let [row, col, row_end, col_end] = corners;
+    done(rt, alloc, &["sub", "A", row, col, row_end, col_end], a, "")
+}
+
+#[test]
+fn parts_of_a_tall_matrix(rt: HostRuntime) -> Result<(), Fail> {
+    let alloc = rt.alloc();
+    let mut source = Xoshiro256PlusPlus::seed_from_u64(5);
+    let a = random(alloc, &mut source, 1030, 70)?;
+    assert_real(&rt, alloc, &a, 70)?;
+    let top = cut(&rt, alloc, &a, ["0", "0", "1000", "70"])?;
+    let bottom = cut(&rt, alloc, &a, ["1000", "0", "1030", "70"])?;
+    assert!(rt; done(&rt, alloc, &["stack", "A", "B"], &top, &bottom)? == a);
+    let left = cut(&rt, alloc, &a, ["0", "0", "1030", "65"])?;
+    let right = cut(&rt, alloc, &a, ["0", "65", "1030", "70"])?;
+    assert!(rt; done(&rt, alloc, &["augment", "A", "B"], &left, &right)? == a);
+    let turned = done(&rt, alloc, &["transpose", "A"], &a, "")?;
+    assert!(rt; done(&rt, alloc, &["transpose", "A"], &turned, "")? == a);
+    let zeros = done(&rt, alloc, &["add", "A", "B"], &a, &a)?;
+    assert!(rt; done(&rt, alloc, &["add", "A", "B"], &zeros, &a)? == a);
+    assert!(rt; done(&rt, alloc, &["convert", "A"], &a, "")? == a);
+    Ok(())
+}
+
+#[test]
+fn a_product_added_to_a_tall_matrix(rt: HostRuntime) -> Result<(), Fail> {
+    let alloc = rt.alloc();
+    let mut source = Xoshiro256PlusPlus::seed_from_u64(6);
+    let c = random(alloc, &mut source, 1030, 70)?;
+    let a = random(alloc, &mut source, 1010, 33)?;
+    let b = random(alloc, &mut source, 33, 6)?;
+    let words = ["addmul", "C", "20", "64", "A", "B"];
+    let operands = [a.as_bytes(), b.as_bytes(), c.as_bytes()];
+    let ended = run_over(alloc, &words, operands, &ROOMY)?;
+    let sum = std::str::from_utf8(ended.out.taken()).expect(&rt, "a text");
+    let product = done(&rt, alloc, &["mul", "A", "B"], &a, &b)?;
+    let place = ["20", "64", "1030", "70"];
+    let before = cut(&rt, alloc, &c, place)?;
+    let changed = done(&rt, alloc, &["add", "A", "B"], &before, &product)?;
+    assert!(rt; cut(&rt, alloc, sum, place)? == changed);
+    for around in [["0", "0", "1030", "64"], ["0", "64", "20", "70"]] {
+        assert!(rt; cut(&rt, alloc, sum, around)? == cut(&rt, alloc, &c, around)?);
     }
     Ok(())
 }
