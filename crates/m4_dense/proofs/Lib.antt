@@ -1,0 +1,3 @@
+pub mod EqualLemmas
+pub mod FactorsLemmas
+pub mod ProductLemmas

@@ -1,0 +1,179 @@
+//! The factors of a matrix over GF(2): PLE and PLUQ.
+
+ghost use Rattle.std.specs.Prelude.{◌≡◌, ◌≤◌, ◌^◌, IfOk, length};
+ghost use Rattle.m4_model.specs.Field.{gf2};
+ghost use Rattle.m4_solve.specs.Context.{Serves};
+ghost use Rattle.m4_dense.specs.Engine.{engine_limits};
+ghost use Rattle.m4_dense.specs.Factors.{IsPleOf, IsPluqOf};
+
+use crate::engine::{Engine, context};
+use crate::how::How;
+use m4_model::NoMemory;
+use m4_mzd::{AddMul, Mzd};
+use m4_mzed::Mzed;
+use m4_perm::Perm;
+use m4_ple::{ple_factors, pluq_factors};
+use m4_solve::Ctx;
+use std::alloc::Global;
+
+/// A PLE of a matrix: row `rows[i]` of the matrix is row `i` of the product of the factors.
+#[derive(Drop)]
+pub struct PleFactors {
+    /// The order of the rows.
+    pub rows: Perm,
+    /// The columns of the pivots, as many as the rank.
+    pub pivots: Vec<u32>,
+    /// Square, with ones on its diagonal and zeros above it.
+    pub l: Mzed,
+    /// As large as the matrix, in row echelon form.
+    pub e: Mzed,
+}
+
+/// A PLUQ of a matrix: its entry in row `rows[i]` and column `columns[j]` is entry `(i, j)` of the product of the factors.
+#[derive(Drop)]
+pub struct PluqFactors {
+    /// The rank of the matrix.
+    pub rank: u32,
+    /// The order of the rows.
+    pub rows: Perm,
+    /// The order of the columns.
+    pub columns: Perm,
+    /// Square, with ones on its diagonal and zeros above it.
+    pub l: Mzed,
+    /// As large as the matrix, with zeros below its diagonal, and nonzero on it as far as the rank goes.
+    pub u: Mzed,
+}
+
+/// What the factors of a matrix are made in.
+#[derive(Drop)]
+struct Workspace {
+    /// Room for the exchanges of rows.
+    exchanges: Vec<u32>,
+    /// Room for the pivot columns, or for the exchanges of columns.
+    pivots: Vec<u32>,
+    context: Ctx<Engine>,
+}
+
+impl Workspace {
+    /// What the factors of a matrix of so many rows and columns are made in.
+    fn new(alloc: Global, how: How, rows: u32, cols: u32) -> Result<Workspace, NoMemory>
+        requires few_rows { rows ≤ 2 ^ 24 }
+        requires few_cols { cols ≤ 2 ^ 24 }
+        ensures exchanges { IfOk result (λ space. length space.exchanges.items ≡ rows) }
+        ensures pivots { IfOk result (λ space. length space.pivots.items ≡ rows) }
+        ensures serves { IfOk result (λ space. Serves (engine_limits space.context.engine) space.context.cutoff rows cols) }
+    {
+        Ok(Workspace {
+            exchanges: vec![in alloc; 0u32; rows as usize]?,
+            pivots: vec![in alloc; 0u32; rows as usize]?,
+            context: context(alloc, how, rows, cols)?,
+        })
+    }
+}
+
+/// A PLE of an m x n matrix over GF(2): an order of its rows, an m x m matrix L with ones on its diagonal and zeros above it, and an
+/// m x n matrix E in row echelon form, whose pivots are the columns that aren't combinations of those before them.
+///
+/// The elimination is made in the matrix's own place: Jeannerod, Pernet and Storjohann, Rank-profile revealing Gaussian elimination
+/// and the CUP matrix decomposition, Journal of Symbolic Computation 56, 2013. It takes memory for the factors and for two numbers
+/// for each row.
+pub fn ple(alloc: Global, how: How, a: Mzed) -> Result<PleFactors, NoMemory>
+    requires over_gf2 { a.field ≡ gf2 }
+    ensures { IfOk result (IsPleOf a) }
+{
+    let bits = a.into_bits();
+    let mut space = Workspace::new(alloc, how, bits.rows(), bits.cols())?;
+    Ok(ple_in_room(
+        alloc,
+        bits,
+        &mut space.exchanges,
+        &mut space.pivots,
+        &mut space.context,
+    )?)
+}
+
+/// A PLE of a matrix, with room for its exchanges and pivots.
+fn ple_in_room<M: AddMul>(
+    alloc: Global,
+    a: Mzd,
+    exchanges: &mut [u32],
+    pivots: &mut [u32],
+    context: &mut Ctx<M>,
+) -> Result<PleFactors, NoMemory>
+    requires exchanges { length exchanges.old ≡ a.rows }
+    requires pivots { length pivots.old ≡ a.rows }
+    requires serves { Serves (M.limits context.old.engine) context.old.cutoff a.rows a.cols }
+    ensures { IfOk result (IsPleOf a) }
+{
+    let mut held = a;
+    let (mut all, home) = held.all_mut();
+    let rank = m4_ple::ple(
+        &mut all,
+        exchanges,
+        pivots,
+        &mut context.engine,
+        context.cutoff,
+    );
+    held.put_all(all, home);
+    let pivots = &pivots[..rank as usize];
+    let factors = ple_factors(alloc, &held.all(), pivots)?;
+    Ok(PleFactors {
+        rows: Perm::from_swaps(alloc, held.rows(), exchanges)?,
+        pivots: Vec::from_slice(alloc, pivots)?,
+        l: Mzed::of_bits(factors.l),
+        e: Mzed::of_bits(factors.e),
+    })
+}
+
+/// A PLUQ of an m x n matrix over GF(2): an order of its rows and one of its columns, an m x m matrix L with ones on its diagonal and
+/// zeros above it, and an m x n matrix U with zeros below its diagonal, which isn't zero on the diagonal as far as the rank goes.
+///
+/// The elimination is made in the matrix's own place, and the pivots' columns are brought to the front, as in the same paper.
+/// It takes memory for the factors, for two numbers for each row, and for one for each column.
+pub fn pluq(alloc: Global, how: How, a: Mzed) -> Result<PluqFactors, NoMemory>
+    requires over_gf2 { a.field ≡ gf2 }
+    ensures { IfOk result (IsPluqOf a) }
+{
+    let bits = a.into_bits();
+    let mut space = Workspace::new(alloc, how, bits.rows(), bits.cols())?;
+    Ok(pluq_in_room(
+        alloc,
+        bits,
+        &mut space.exchanges,
+        &mut space.pivots,
+        &mut space.context,
+    )?)
+}
+
+/// A PLUQ of a matrix, with room for its exchanges of rows and of columns.
+fn pluq_in_room<M: AddMul>(
+    alloc: Global,
+    a: Mzd,
+    exchanges: &mut [u32],
+    pivots: &mut [u32],
+    context: &mut Ctx<M>,
+) -> Result<PluqFactors, NoMemory>
+    requires exchanges { length exchanges.old ≡ a.rows }
+    requires pivots { length pivots.old ≡ a.rows }
+    requires serves { Serves (M.limits context.old.engine) context.old.cutoff a.rows a.cols }
+    ensures { IfOk result (IsPluqOf a) }
+{
+    let mut held = a;
+    let (mut all, home) = held.all_mut();
+    let rank = m4_ple::pluq(
+        &mut all,
+        exchanges,
+        pivots,
+        &mut context.engine,
+        context.cutoff,
+    );
+    held.put_all(all, home);
+    let factors = pluq_factors(alloc, &held.all(), rank)?;
+    Ok(PluqFactors {
+        rank,
+        rows: Perm::from_swaps(alloc, held.rows(), exchanges)?,
+        columns: Perm::from_swaps(alloc, held.cols(), &pivots[..rank as usize])?,
+        l: Mzed::of_bits(factors.l),
+        u: Mzed::of_bits(factors.e),
+    })
+}

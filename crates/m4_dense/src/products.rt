@@ -1,0 +1,114 @@
+//! Products over every field.
+
+ghost use Rattle.std.specs.Prelude.{◌≡◌, ◌+◌, ◌*◌, ◌%◌, IfOk, OnErr};
+ghost use Rattle.m4_model.specs.Field.{width};
+ghost use Rattle.m4_model.specs.Matrix.{added, product};
+ghost use Rattle.m4_model.specs.Outcome.{HasRoom, with_product};
+ghost use Rattle.m4_model.specs.Shapes.{cut, replace};
+ghost use Rattle.m4_mzd.specs.Reach.{IsReached};
+ghost use Rattle.m4_mzd.specs.Rectangles.{IsInside};
+
+use crate::engine::Engine;
+use crate::how::How;
+use m4_model::NoMemory;
+use m4_mzd::Rect;
+use m4_mzed::Mzed;
+use m4_newton::{EAddMul, EPlain, OverBits};
+use std::alloc::Global;
+
+/// The product of an m x l matrix `a` and an l x n matrix `b` over the same field: an m x n matrix.
+///
+/// It takes memory for the product, and over GF(2), where `how` asks for tables, for these and, past 2,048 columns, for a block
+/// of the product of at most 4.5 MiB. Over GF(2) tables of the sums of `k` rows are used: Albrecht, Bard and Hart, Efficient
+/// multiplication of dense matrices over GF(2), ACM Transactions on Mathematical Software 37, 2010. Over other fields the
+/// product is made row by row, in m l n / 64 steps for each bit of an entry.
+pub fn product(alloc: Global, how: How, a: &Mzed, b: &Mzed) -> Result<Mzed, NoMemory>
+    requires same_field { b.now.field ≡ a.now.field }
+    requires inner { a.now.cols ≡ b.now.rows }
+    ensures { IfOk result (λ c. c ≡ product a.now b.now) }
+{
+    let _rows = a.rows();
+    let _rows_of_b = b.rows();
+    if a.field().e() == 1 {
+        let engine = Engine::new(alloc, how, b.cols())?;
+        product_by(alloc, &mut OverBits { engine }, a, b)
+    } else {
+        product_by(alloc, &mut EPlain, a, b)
+    }
+}
+
+/// The product of two matrices by an engine.
+fn product_by<E: EAddMul>(
+    alloc: Global,
+    engine: &mut E,
+    a: &Mzed,
+    b: &Mzed,
+) -> Result<Mzed, NoMemory>
+    requires for_field { E.IsFor engine.old a.now.field }
+    requires same_field { b.now.field ≡ a.now.field }
+    requires inner { a.now.cols ≡ b.now.rows }
+    requires reached { IsReached (E.limits engine.old) a.now.rows a.now.cols b.now.cols }
+    ensures { IfOk result (λ c. c ≡ product a.now b.now) }
+{
+    let mut c = Mzed::zeros(alloc, a.field(), a.rows(), b.cols())?;
+    let (mut all, home) = c.all_mut();
+    engine.addmul(&mut all, &a.all(), &b.all());
+    c.put_all(all, home);
+    Ok(c)
+}
+
+/// Adds the product of an m x l matrix `a` and an l x n matrix `b` to the m x n rectangle of `c` that begins at a place, a row
+/// and a column, where this column begins at a word. All else of `c` stays, and where memory is wanting all of it.
+///
+/// It takes memory for tables, where `how` asks for them over GF(2), and no other. It is computed as `product` is.
+pub fn add_product(
+    alloc: Global,
+    how: How,
+    c: &mut Mzed,
+    place: (u32, u32),
+    a: &Mzed,
+    b: &Mzed,
+) -> Result<(), NoMemory>
+    requires first_field { a.now.field ≡ c.old.field }
+    requires second_field { b.now.field ≡ c.old.field }
+    requires inner { a.now.cols ≡ b.now.rows }
+    requires room { HasRoom c.old place.0 place.1 a.now.rows b.now.cols }
+    ensures sum { IfOk result (λ done. c.new ≡ with_product c.old place.0 place.1 a.now b.now) }
+    ensures kept { OnErr result (c.new ≡ c.old) }
+{
+    let _shape = c.rows();
+    let _rows = a.rows();
+    let (row, col) = place;
+    let rect = Rect {
+        r0: row,
+        c0: col,
+        r1: row + a.rows(),
+        c1: col + b.cols(),
+    };
+    if c.field().e() == 1 {
+        let engine = Engine::new(alloc, how, b.cols())?;
+        add_product_by(&mut OverBits { engine }, c, rect, a, b);
+    } else {
+        add_product_by(&mut EPlain, c, rect, a, b);
+    }
+    Ok(())
+}
+
+/// Adds the product of `a` and `b` to a rectangle of `c` of its shape, by an engine. All else stays.
+fn add_product_by<E: EAddMul>(engine: &mut E, c: &mut Mzed, rect: Rect, a: &Mzed, b: &Mzed)
+    requires for_field { E.IsFor engine.old c.old.field }
+    requires first_field { a.now.field ≡ c.old.field }
+    requires second_field { b.now.field ≡ c.old.field }
+    requires inside { IsInside rect c.old.rows c.old.cols }
+    requires whole_words { rect.c0 * width c.old.field % 64 ≡ 0 }
+    requires inner { a.now.cols ≡ b.now.rows }
+    requires rows { rect.r1 ≡ rect.r0 + a.now.rows }
+    requires cols { rect.c1 ≡ rect.c0 + b.now.cols }
+    requires reached { IsReached (E.limits engine.old) a.now.rows a.now.cols b.now.cols }
+    ensures { c.new ≡ replace c.old rect.r0 rect.c0 (added (cut c.old rect.r0 rect.c0 rect.r1 rect.c1) (product a.now b.now)) }
+{
+    let _rows = a.rows();
+    let (mut part, around) = c.win_mut(rect);
+    engine.addmul(&mut part, &a.all(), &b.all());
+    c.put_win(part, around);
+}
