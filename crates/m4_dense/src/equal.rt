@@ -6,8 +6,8 @@ ghost use Rattle.m4_dense.specs.Alike.{AreAlike};
 
 use m4_mzed::Mzed;
 
-/// Whether two matrices are over the same field, of the same shape, and have the same entries. They are compared entry by entry,
-/// up to the first that differs. It takes no memory.
+/// Whether two matrices are over the same field, of the same shape, and have the same entries. They are compared entry by
+/// entry, up to the first that differs. It takes no memory.
 pub fn are_equal(a: &Mzed, b: &Mzed) -> bool
     ensures { IsTrue result ↔ (a.now ≡ b.now) }
 {

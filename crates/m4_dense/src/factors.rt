@@ -71,12 +71,12 @@ impl Workspace {
     }
 }
 
-/// A PLE of an m x n matrix over GF(2): an order of its rows, an m x m matrix L with ones on its diagonal and zeros above it, and an
-/// m x n matrix E in row echelon form, whose pivots are the columns that aren't combinations of those before them.
+/// A PLE of an m x n matrix over GF(2): an order of its rows, an m x m matrix L with ones on its diagonal and zeros above
+/// it, and an m x n matrix E in row echelon form, whose pivots are the columns that aren't combinations of those before
+/// them.
 ///
-/// The elimination is made in the matrix's own place: Jeannerod, Pernet and Storjohann, Rank-profile revealing Gaussian elimination
-/// and the CUP matrix decomposition, Journal of Symbolic Computation 56, 2013. It takes memory for the factors and for two numbers
-/// for each row.
+/// The elimination is made in the matrix's own place: Albrecht, Bard and Pernet, Efficient dense Gaussian elimination over
+/// the field with two elements, 2011. It takes memory for the factors and for two numbers for each row.
 pub fn ple(alloc: Global, how: How, a: Mzed) -> Result<PleFactors, NoMemory>
     requires over_gf2 { a.field ≡ gf2 }
     ensures { IfOk result (IsPleOf a) }
@@ -125,11 +125,12 @@ fn ple_in_room<M: AddMul>(
     })
 }
 
-/// A PLUQ of an m x n matrix over GF(2): an order of its rows and one of its columns, an m x m matrix L with ones on its diagonal and
-/// zeros above it, and an m x n matrix U with zeros below its diagonal, which isn't zero on the diagonal as far as the rank goes.
+/// A PLUQ of an m x n matrix over GF(2): an order of its rows and one of its columns, an m x m matrix L with ones on its
+/// diagonal and zeros above it, and an m x n matrix U with zeros below its diagonal, which isn't zero on the diagonal as
+/// far as the rank goes.
 ///
-/// The elimination is made in the matrix's own place, and the pivots' columns are brought to the front, as in the same paper.
-/// It takes memory for the factors, for two numbers for each row, and for one for each column.
+/// The elimination is made in the matrix's own place, and the pivots' columns are brought to the front, as in the same
+/// paper. It takes memory for the factors, for two numbers for each row, and for one for each column.
 pub fn pluq(alloc: Global, how: How, a: Mzed) -> Result<PluqFactors, NoMemory>
     requires over_gf2 { a.field ≡ gf2 }
     ensures { IfOk result (IsPluqOf a) }

@@ -1,12 +1,14 @@
-//! The library's front door: what is asked of matrices over a field. Each call has one clause that says what it answers, by a
-//! definition of `m4_model`, and want of memory is the one refusal.
+//! The library's front door: what is asked of matrices over a field. Each call has one clause that says what it answers, by
+//! a definition of `m4_model`, and want of memory is the one refusal.
 //!
-//! The matrix is `Mzed`, over GF(2) or over a field GF(2^e) of a degree up to 16: its rows, its columns, its field and an entry are
-//! calls of its own, and `zeros`, `put`, `from_digits` and `from_words` make one. `How` says how things are computed, and
-//! `How::default()` suits everybody: no caller names an engine, a table or a window.
+//! The matrix is `Mzed`, over GF(2) or over a field GF(2^e) of a degree up to 16: its rows, its columns, its field and an
+//! entry are calls of its own, and `zeros`, `put`, `from_digits` and `from_words` make one; `are_equal` compares two. `How`
+//! says how things are computed, and `How::default()` suits everybody: no caller names an engine, a table or a window.
 //!
-//! Sums, products, the transpose and the parts of matrices are there over every field. Eliminations, which are the rank, the
-//! reduced form, inverses, solutions, the kernel and the factors, are there over GF(2).
+//! The product of two matrices over one field, of shapes that fit, is `product(alloc, How::default(), &a, &b)?`.
+//!
+//! Sums, products, the transpose and the parts of matrices are there over every field. Eliminations, which are the rank,
+//! the reduced form, inverses, solutions, the kernel and the factors, are there over GF(2).
 #![tactic(auto)]
 
 mod engine;
@@ -14,6 +16,7 @@ mod equal;
 mod factors;
 mod how;
 mod listed;
+mod pivots;
 mod products;
 mod shapes;
 mod systems;
@@ -27,6 +30,7 @@ pub use m4_model::{Algo, NoMemory};
 pub use m4_mzd::{Mzd, Rect};
 pub use m4_mzed::Mzed;
 pub use m4_perm::Perm;
+pub use pivots::{PivotForm, pivot_form};
 pub use products::{add_product, product};
 pub use shapes::{add_into, augment, rectangle, stack, sum, transpose};
 pub use systems::{inverse, kernel, rank, reduced_form, solution};

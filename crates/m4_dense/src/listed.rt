@@ -11,7 +11,8 @@ use m4_mzd::Mzd;
 use m4_mzed::Mzed;
 use std::alloc::Global;
 
-/// The matrix over GF(2) of these rows of digits, as `&[*b"101", *b"011"]`: an entry is 1 where the digit is `1`, and else 0.
+/// The matrix over GF(2) of these rows of digits, as `&[*b"101", *b"011"]`: an entry is 1 where the digit is `1`, and else
+/// 0.
 pub fn from_digits<const N: usize>(alloc: Global, rows: &[[u8; N]]) -> Result<Mzed, NoMemory>
     requires few_rows { length rows.now ≤ 2 ^ 24 }
     requires few_cols { N ≤ 2 ^ 24 }
@@ -20,8 +21,8 @@ pub fn from_digits<const N: usize>(alloc: Global, rows: &[[u8; N]]) -> Result<Mz
     Ok(Mzed::of_bits(Mzd::from_digits(alloc, rows)?))
 }
 
-/// The matrix over GF(2) of these rows of words: the entry in column `64 w + j` is bit `j` of a row's word `w`. The bits past the
-/// last column are left out.
+/// The matrix over GF(2) of these rows of words: the entry in column `64 w + j` is bit `j` of a row's word `w`. The bits
+/// past the last column are left out.
 pub fn from_words<const W: usize>(
     alloc: Global,
     cols: u32,

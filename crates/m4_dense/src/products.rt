@@ -18,10 +18,12 @@ use std::alloc::Global;
 
 /// The product of an m x l matrix `a` and an l x n matrix `b` over the same field: an m x n matrix.
 ///
-/// It takes memory for the product, and over GF(2), where `how` asks for tables, for these and, past 2,048 columns, for a block
-/// of the product of at most 4.5 MiB. Over GF(2) tables of the sums of `k` rows are used: Albrecht, Bard and Hart, Efficient
-/// multiplication of dense matrices over GF(2), ACM Transactions on Mathematical Software 37, 2010. Over other fields the
-/// product is made row by row, in m l n / 64 steps for each bit of an entry.
+/// It takes memory for the product. Over GF(2), with tables, these take `tables * 2^k` rows of the product's length
+/// besides, and past 2,048 columns a part of the product is worked in room of its own, of at most 5.5 MiB.
+///
+/// Over GF(2) the tables hold the sums of `k` rows of `b`: Albrecht, Bard and Hart, Efficient multiplication of dense
+/// matrices over GF(2), ACM Transactions on Mathematical Software 37, 2010; without them, and over other fields, m l
+/// multiples of a row of `b` are added.
 pub fn product(alloc: Global, how: How, a: &Mzed, b: &Mzed) -> Result<Mzed, NoMemory>
     requires same_field { b.now.field ≡ a.now.field }
     requires inner { a.now.cols ≡ b.now.rows }
@@ -57,10 +59,10 @@ fn product_by<E: EAddMul>(
     Ok(c)
 }
 
-/// Adds the product of an m x l matrix `a` and an l x n matrix `b` to the m x n rectangle of `c` that begins at a place, a row
-/// and a column, where this column begins at a word. All else of `c` stays, and where memory is wanting all of it.
+/// Adds the product of an m x l matrix `a` and an l x n matrix `b` to the m x n rectangle of `c` that begins at a place, a
+/// row and a column, where this column begins at a word. All else of `c` stays, and where memory is wanting all of it.
 ///
-/// It takes memory for tables, where `how` asks for them over GF(2), and no other. It is computed as `product` is.
+/// It is computed as `product` is, and takes memory for tables and the room of large products, but not for the product.
 pub fn add_product(
     alloc: Global,
     how: How,

@@ -36,11 +36,11 @@ pub fn add_into(a: &mut Mzed, b: &Mzed)
     a.put_all(all, home);
 }
 
-/// The transpose of an m x n matrix: an n x m matrix, whose rows of m entries take at most 2^24 bits. It takes memory for the
-/// transpose.
+/// The transpose of an m x n matrix: an n x m matrix, whose rows of m entries take at most 2^24 bits. It takes memory for
+/// the transpose.
 ///
-/// Over GF(2) the matrix is halved until its parts suit each cache, and turned there in blocks of 64 x 64 bits; over other fields
-/// it is turned entry by entry.
+/// Over GF(2) the matrix is halved until its parts suit each cache, and turned there in blocks of 64 x 64 bits; over other
+/// fields it is turned entry by entry.
 pub fn transpose(alloc: Global, a: &Mzed) -> Result<Mzed, NoMemory>
     requires few_bits { a.now.rows * width a.now.field ≤ 2 ^ 24 }
     ensures { IfOk result (λ m. m ≡ transposed a.now) }
@@ -49,8 +49,8 @@ pub fn transpose(alloc: Global, a: &Mzed) -> Result<Mzed, NoMemory>
     etranspose(alloc, &a.all())
 }
 
-/// `a` over `b`, a matrix over the same field and of as many columns. Both have at most 2^24 rows together. It takes memory for
-/// the answer.
+/// `a` over `b`, a matrix over the same field and of as many columns. Both have at most 2^24 rows together. It takes memory
+/// for the answer.
 pub fn stack(alloc: Global, a: &Mzed, b: &Mzed) -> Result<Mzed, NoMemory>
     requires same_field { b.now.field ≡ a.now.field }
     requires same_cols { b.now.cols ≡ a.now.cols }
@@ -60,8 +60,8 @@ pub fn stack(alloc: Global, a: &Mzed, b: &Mzed) -> Result<Mzed, NoMemory>
     estack(alloc, &a.all(), &b.all())
 }
 
-/// `a` left of `b`, a matrix over the same field and of as many rows. The rows of the answer take at most 2^24 bits. It takes
-/// memory for the answer.
+/// `a` left of `b`, a matrix over the same field and of as many rows. The rows of the answer take at most 2^24 bits. It
+/// takes memory for the answer.
 pub fn augment(alloc: Global, a: &Mzed, b: &Mzed) -> Result<Mzed, NoMemory>
     requires same_field { b.now.field ≡ a.now.field }
     requires same_rows { b.now.rows ≡ a.now.rows }
@@ -71,8 +71,8 @@ pub fn augment(alloc: Global, a: &Mzed, b: &Mzed) -> Result<Mzed, NoMemory>
     eaugment(alloc, &a.all(), &b.all())
 }
 
-/// A rectangle of a matrix that lies inside of it, as a matrix of its own. It may begin at any column, and is copied by shifted
-/// words. It takes memory for the answer.
+/// A rectangle of a matrix that lies inside of it, as a matrix of its own. It may begin at any column, and is copied by
+/// shifted words. It takes memory for the answer.
 pub fn rectangle(alloc: Global, a: &Mzed, rect: Rect) -> Result<Mzed, NoMemory>
     requires inside { IsInside rect a.now.rows a.now.cols }
     ensures { IfOk result (λ m. m ≡ cut a.now rect.r0 rect.c0 rect.r1 rect.c1) }

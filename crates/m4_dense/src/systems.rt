@@ -27,8 +27,8 @@ pub fn rank(alloc: Global, how: How, a: &Mzed) -> Result<u32, NoMemory>
 
 /// The reduced row echelon form of a matrix of any shape over GF(2), in its own place. There is one.
 ///
-/// It takes memory for a row, and for a number for each row and each pivot. A PLE is made, its echelon form is kept, and the entries
-/// above the pivots are cleared.
+/// It takes memory for a row, and for a number for each row and each pivot. A PLE is made, its echelon form is kept, and
+/// the entries above the pivots are cleared.
 pub fn reduced_form(alloc: Global, how: How, a: Mzed) -> Result<Mzed, NoMemory>
     requires over_gf2 { a.field ≡ gf2 }
     ensures { IfOk result (λ form. IsReduced form a) }
@@ -39,10 +39,11 @@ pub fn reduced_form(alloc: Global, how: How, a: Mzed) -> Result<Mzed, NoMemory>
     Ok(Mzed::of_bits(form))
 }
 
-/// The inverse of a square matrix of at most 2^23 rows over GF(2), or `None` where there is none: then the matrix takes a column
-/// that isn't zero to zero.
+/// The inverse of a square matrix of at most 2^23 rows over GF(2), or `None` where there is none: then the matrix takes a
+/// column that isn't zero to zero.
 ///
-/// It takes memory for the inverse, and for the matrix beside the identity, whose reduced form has the inverse on its right.
+/// It takes memory for the inverse, and for the matrix beside the identity, whose reduced form has the inverse on its
+/// right.
 pub fn inverse(alloc: Global, how: How, a: &Mzed) -> Result<Option<Mzed>, NoMemory>
     requires over_gf2 { a.now.field ≡ gf2 }
     requires square { a.now.cols ≡ a.now.rows }
@@ -57,8 +58,9 @@ pub fn inverse(alloc: Global, how: How, a: &Mzed) -> Result<Option<Mzed>, NoMemo
     }
 }
 
-/// The solution X of A X = B over GF(2), for each column of an m x n matrix B, or `None` where there is none. A is an m x l matrix,
-/// X is l x n, and l + n is at most 2^24. Of all solutions it is the one whose rows at the free columns of A are zero.
+/// The solution X of A X = B over GF(2), for each column of an m x n matrix B, or `None` where there is none. A is an m x l
+/// matrix, X is l x n, and l + n is at most 2^24. Of all solutions it is the one whose rows at the free columns of A are
+/// zero.
 ///
 /// It takes memory for the solution, and for A beside B, of whose reduced form it is read off.
 pub fn solution(alloc: Global, how: How, a: &Mzed, b: &Mzed) -> Result<Option<Mzed>, NoMemory>
@@ -77,8 +79,8 @@ pub fn solution(alloc: Global, how: How, a: &Mzed, b: &Mzed) -> Result<Option<Mz
     }
 }
 
-/// The basis of the kernel of an m x n matrix of rank r over GF(2): n - r rows of n entries, each of which the matrix takes to zero,
-/// and at the free columns of the matrix they are the identity. There is one such basis.
+/// The basis of the kernel of an m x n matrix of rank r over GF(2): n - r rows of n entries, each of which the matrix takes
+/// to zero, and at the free columns of the matrix they are the identity. There is one such basis.
 ///
 /// It takes memory for the basis, and for a copy of the matrix, of whose reduced form it is read off.
 pub fn kernel(alloc: Global, how: How, a: &Mzed) -> Result<Mzed, NoMemory>
