@@ -33,8 +33,7 @@ impl Default for How {
 
     ghost is_default = { IsDefault };
 
-    /// Four tables of six columns, and parts of 2,048 columns: what is fastest from some hundred columns on, and the tables
-    /// of 2,048 columns take 64 KiB.
+    /// Four tables of six columns, and parts of 2,048 columns. The tables of a product of 2,048 columns take 64 KiB.
     fn default() -> How {
         How {
             algo: Algo::Table,
