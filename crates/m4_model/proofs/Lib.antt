@@ -28,3 +28,4 @@ mod WordsExamples
 mod ExampleTests
 mod ExamplesForms
 mod TextExamples
+mod HeadedExamples

@@ -9,6 +9,8 @@ pub mod Text
 pub mod Bare
 pub mod Jcf
 pub mod Texts
+pub mod Headed
+pub mod FormTexts
 pub mod Words
 pub mod Outcome
 pub mod Additions
