@@ -4,12 +4,22 @@ use Rattle.std.specs.Fmt.{digits}
 use Rattle.m4_model.specs.Field.{gf2, IsExtension, clmul, mul, sum_below, bits_within, rem_within}
 use Rattle.m4_model.specs.Matrix.{Matrix, table, product}
 use Rattle.m4_model.specs.Additions.{additions}
+use Rattle.m4_model.specs.Recursion.{Quartered, half, within_levels, need, products, joined, winograd}
 use Rattle.m4_model.specs.Shapes.{transposed, above, beside, cut, replace, swaps, exchanged}
 use Rattle.m4_model.specs.Text.{text}
 
 -- a matrix over GF(2)
 abbrev pub bits : ℕ → ℕ → List (List ℕ) → Matrix
 bits m n entries = record { field = gf2; rows = m; cols = n; entries = entries }
+
+-- a matrix of four entries, a quarter each
+abbrev pub entries_of : ℕ → ℕ → ℕ → ℕ → Quartered
+entries_of a b c d = record {
+  top_left = bits 1 1 ((a ∷ []) ∷ []);
+  top_right = bits 1 1 ((b ∷ []) ∷ []);
+  bottom_left = bits 1 1 ((c ∷ []) ∷ []);
+  bottom_right = bits 1 1 ((d ∷ []) ∷ []);
+}
 
 -- 53 and ca are inverse to each other modulo 11b, and x times x^3 is 1 modulo 1f
 inverse_elements : mul (record { degree = 8; poly = 0x11b }) 0x53 0xca ≡ 1
@@ -86,3 +96,41 @@ no_addition = refl
 
 additions_with_a_column_left_over : additions 3 5 2 ≡ 16
 additions_with_a_column_left_over = refl
+
+-- products by halves: 128 x 128 matrices are cut once at cutoff 64, into quarters of 64 x 64
+words_of_one_level : need 128 128 128 64 ≡ 256
+unfolding within_levels
+words_of_one_level = refl
+
+products_of_one_level : products 128 128 128 64 ≡ 10
+unfolding within_levels
+products_of_one_level = refl
+
+words_of_two_levels : need 256 256 256 64 ≡ 1280
+unfolding within_levels
+words_of_two_levels = refl
+
+products_of_two_levels : products 256 256 256 64 ≡ 73
+unfolding within_levels
+products_of_two_levels = refl
+
+-- a side below twice the cutoff, or no cutoff
+no_words_for_a_small_product : need 127 128 128 64 ≡ 0
+unfolding within_levels
+no_words_for_a_small_product = refl
+
+a_small_product_is_one : products 127 128 128 64 ≡ 1
+unfolding within_levels
+a_small_product_is_one = refl
+
+no_cutoff_cuts_nothing : products 4096 4096 4096 0 ≡ 1
+unfolding within_levels
+no_cutoff_cuts_nothing = refl
+
+half_of_a_side_with_a_border : half 195 ≡ 64
+half_of_a_side_with_a_border = refl
+
+-- in a level of 2 x 2 matrices of one entry each, the bottom left of the product is a22 b21 alone where no other entry stands
+small_quarter : (joined (winograd (entries_of 0 0 0 1) (entries_of 0 0 1 0))).entries ≡ (0 ∷ 0 ∷ []) ∷ (1 ∷ 0 ∷ []) ∷ []
+unfolding mul clmul sum_below bits_within rem_within table
+small_quarter = refl

@@ -23,6 +23,9 @@ pub mod Division
 pub mod Remainder
 pub mod FieldProofs
 pub mod Gf2Lemmas
+pub mod XorLemmas
+pub mod RecursionLemmas
+pub mod WinogradLemmas
 mod Examples
 mod WordsExamples
 mod ExampleTests

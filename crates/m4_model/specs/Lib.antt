@@ -14,3 +14,4 @@ pub mod FormTexts
 pub mod Words
 pub mod Outcome
 pub mod Additions
+pub mod Recursion

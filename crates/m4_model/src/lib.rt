@@ -10,6 +10,7 @@ mod factor_laws;
 mod field_laws;
 mod form_laws;
 mod no_memory;
+mod recursion_laws;
 mod ring_laws;
 mod status;
 
@@ -19,5 +20,6 @@ pub use factor_laws::{law_ple, law_ple_step};
 pub use field_laws::law_field;
 pub use form_laws::{law_inverse, law_kernel, law_reduced, law_solution};
 pub use no_memory::NoMemory;
+pub use recursion_laws::{law_need, law_winograd};
 pub use ring_laws::law_ring;
 pub use status::Status;
