@@ -1,18 +1,20 @@
 -- The numbers of a rectangle's parts name the words of their areas.
-use Rattle.std.proofs.Common.{◌≡◌, ℕ, zero, suc, max, ◌+◌, ◌-◌, ◌*◌, ◌^◌, ◌<◌, ◌≤◌, List, ◌++◌, length, take, drop, map, arith, sym, ap, subst, ◌∙◌}
+use Rattle.std.proofs.Common.{◌≡◌, ℕ, zero, suc, max, ◌+◌, ◌-◌, ◌*◌, ◌^◌, ◌<◌, ◌≤◌, List, [], ◌∷◌, ◌++◌, length, take, drop, map, arith, refl, sym, ap, subst, ◌∙◌}
 use Rattle.std.proofs.Math.Nat.{mul_assoc}
-use Rattle.std.proofs.lemmas.List.Elements.{All-same}
+use Rattle.std.proofs.lemmas.List.Elements.{All-same, All-nil, All-cons}
+use Rattle.std.specs.List.{All, concat}
 use Rattle.std.specs.Simd.Lanes.{zip2}
 use denote.RawPtr.{Ptr, block_ptr, count_of}
 use Rattle.m4_area.specs.AreaLending.{row_left}
+use Rattle.m4_area.specs.Rows.{row_of}
 use Rattle.m4_area.specs.Strided.{IsRowAt}
 use Rattle.m4_area.specs.Rectangle.{Rectangle}
 use Rattle.m4_area.specs.Storage.{rows_of}
 use Rattle.m4_area.specs.Tied.{rectangle, IsTied}
 use Rattle.m4_area.specs.declared.area.Area.{Area}
 use Rattle.m4_area.specs.declared.words.Words.TheInside.{Inside}
-use Rattle.m4_area.proofs.RowLemmas.{length-rows_of, widths-rows_of}
-use Rattle.m4_area.proofs.ShapeLemmas.{shape_below, shape_left, shape_right, shape_beside, shape_row}
+use Rattle.m4_area.proofs.RowLemmas.{length-rows_of, widths-rows_of, length-concat}
+use Rattle.m4_area.proofs.ShapeLemmas.{shape_below, shape_left, shape_right, shape_beside, shape_row, row_width}
 
 -- so many rows, in bytes
 pub rows_in_bytes : (r step stride : ℕ) → step ≡ stride * 8 → r * step ≡ r * stride * 8
@@ -71,15 +73,19 @@ tied_beside w b a t s place rows meets e =
       shape = shape_beside (rectangle w) (rectangle b) t.shape s.shape place rows meets;
     })
 
--- the rows of a whole rectangle take no more than its words, and one where it has none
-rows_small : (rows width stride : ℕ) → stride ≡ max width 1 → rows * width + rows + width < 2 ^ 60 → 0 + rows * stride + width < 2 ^ 60
-rows_small rows zero stride e h =
+-- the same behind other words
+rows_behind : (rows width stride skip : ℕ) → stride ≡ max width 1 → skip + rows * width + rows + width < 2 ^ 60 → skip + rows * stride + width < 2 ^ 60
+rows_behind rows zero stride skip e h =
     let one : rows * stride ≡ rows * 1 = ap (λ k. rows * k) e in
     omega arith
-rows_small rows (suc width) stride e h =
+rows_behind rows (suc width) stride skip e h =
     let same : stride ≡ suc width = omega arith in
     let all : rows * stride ≡ rows * suc width = ap (λ k. rows * k) same in
     omega arith
+
+-- the rows of a whole rectangle take no more than its words, and one where it has none
+rows_small : (rows width stride : ℕ) → stride ≡ max width 1 → rows * width + rows + width < 2 ^ 60 → 0 + rows * stride + width < 2 ^ 60
+rows_small rows width stride e h = rows_behind rows width stride 0 e (omega (arith, h))
 
 pub tied_whole : (base : Ptr) (rows width stride : ℕ) (a : Area) (words : List ℕ) → base ≡ block_ptr a.block a.first → a.step ≡ stride * 8 → a.rows ≡ rows_of rows width words
     → length words ≡ rows * width → rows * width + rows + width < 2 ^ 60 → stride ≡ max width 1
@@ -97,6 +103,45 @@ tied_whole base rows width stride a words at step in_rows count small strided =
         small = rows_small rows width stride strided small;
       };
     }
+
+-- one row of words, as rows that follow each other with no gap
+pub tied_folded : (w : Inside) (rows width stride : ℕ) (a : Area) → IsTied w → w.rows ≡ 1 → w.width ≡ rows * width
+    → w.skip + w.width + rows + width < 2 ^ 60 → stride ≡ max width 1
+    → a ≡ record w.area { step = stride * 8; rows = rows_of rows width (row_of w.area.rows 0) }
+    → IsTied (record w { rows = rows; width = width; stride = stride; area = a })
+tied_folded w rows width stride a t one all small strided e =
+    let P : Area → Type 0 = λ x. IsTied (record w { rows = rows; width = width; stride = stride; area = x }) in
+    let count : length (row_of w.area.rows 0) ≡ rows * width = row_width (rectangle w) 0 t.shape (omega arith) ∙ all in
+    subst P (sym e) (record {
+      within = t.within;
+      first = t.first;
+      step = refl;
+      shape = record {
+        strided = omega arith;
+        count = length-rows_of rows width (row_of w.area.rows 0);
+        widths = widths-rows_of rows width (row_of w.area.rows 0) count;
+        small = rows_behind rows width stride w.skip strided (omega arith);
+      };
+    })
+
+-- and rows that follow each other with no gap, as one row
+pub tied_unfolded : (w : Inside) (stride : ℕ) (a : Area) → IsTied w → 0 < stride → w.skip + stride + w.rows * w.width < 2 ^ 60
+    → a ≡ record w.area { step = stride * 8; rows = concat w.area.rows ∷ [] }
+    → IsTied (record w { rows = 1; width = w.rows * w.width; stride = stride; area = a })
+tied_unfolded w stride a t some small e =
+    let P : Area → Type 0 = λ x. IsTied (record w { rows = 1; width = w.rows * w.width; stride = stride; area = x }) in
+    let count : length (concat w.area.rows) ≡ w.rows * w.width = length-concat w.width w.area.rows t.shape.widths ∙ ap (λ k. k * w.width) t.shape.count in
+    subst P (sym e) (record {
+      within = t.within;
+      first = t.first;
+      step = refl;
+      shape = record {
+        strided = some;
+        count = refl;
+        widths = All-cons (λ row. length row ≡ w.rows * w.width) (concat w.area.rows) [] count (All-nil (λ row. length row ≡ w.rows * w.width));
+        small = omega arith;
+      };
+    })
 
 -- Facts about what contracts see of two rectangles, told of their numbers.
 module _ (x y v u : Rectangle) (sees_x : x ≡ v) (sees_y : y ≡ u) where

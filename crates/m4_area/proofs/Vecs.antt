@@ -1,5 +1,5 @@
 -- A `Vec` of words is its words and the way back, and words one after another are rows. Assumes `Logic`.
-use Rattle.std.proofs.Common.{◌≡◌, ℕ, zero, suc, ◌+◌, ◌*◌, List, [], ◌∷◌, ◌⊎◌, inl, inr, Bool, true, false, not, length, arith, refl, sym, ap, ◌∙◌, Vec}
+use Rattle.std.proofs.Common.{◌≡◌, ℕ, zero, suc, ◌+◌, ◌*◌, ◌<◌, List, [], ◌∷◌, ◌⊎◌, inl, inr, Bool, true, false, not, length, arith, refl, sym, ap, ◌∙◌, Vec}
 use Rattle.std.proofs.Math.ListN.{drop as drop_l, take as take_l}
 use Rattle.std.proofs.lemmas.List.{with_items_is}
 use Rattle.std.proofs.Math.Nat.{mul-zero}
@@ -36,7 +36,8 @@ use Rattle.std_alloc.proofs.VecSteps.Opens.{not_live}
 use Rattle.m4_area.specs.Strided.{strided_owns}
 use Rattle.m4_area.specs.Storage.{Frame, IsWhole, rows_of}
 use Rattle.m4_area.specs.contracts.storage.Storage as Storage
-use Rattle.m4_area.proofs.Parts.{row_cut, row_glue}
+use Rattle.m4_area.proofs.Parts.{row_cut, row_glue, other_rows, row_out}
+use Rattle.m4_area.specs.Rows.{row_of}
 use Rattle.m4_area.proofs.RowLemmas.{length-concat}
 use Rattle.m4_area.proofs.Walks.{plainly, one, one_made}
 
@@ -97,6 +98,22 @@ module _ {M : Type 1} {𝓤 : Ura M} (𝓛 : Logic 𝓤) (b : ℕ) where
   rows_unmade w stride rs o (inr e) all =
       let none : length rs * w ≡ 0 = ap (λ k. length rs * k) e ∙ mul-zero (length rs) in
       qed 𝓛 (‵ (strided_owns b o (stride * 8) rs) ∷ []) ∵ drop ! $ by ! (no_cells (concat rs) o (length-concat w rs all ∙ none))
+
+  -- the words of the first row of an area, as rows
+  pub folded : (step n w stride : ℕ) (rs : List (List ℕ)) (o : ℕ) → 0 < length rs → (stride ≡ w) ⊎ (w ≡ 0)
+      → ent 𝓤 ⟦ strided_owns b o step rs ⟧ ⟦ strided_owns b o (stride * 8) (rows_of n w (row_of rs 0)) ⟧
+  folded step n w stride rs o some tight =
+      let here : o ≡ o + 0 * step = omega arith in
+      qed 𝓛 (‵ (strided_owns b o step rs) ∷ []) ∵
+      use1 𝓛 (‵ (cells (row_of rs 0) o) ⊛ ‵ (other_rows b step 0 rs o)) (row_out 𝓛 b step 0 rs o o some here) $ split ! $ move ! (1 ∷ []) $ drop ! $
+      by ! (rows_made n w stride (row_of rs 0) o tight)
+
+  -- and the words of all its rows, as one
+  pub unfolded : (step w stride : ℕ) (rs : List (List ℕ)) (o : ℕ) → (stride ≡ w) ⊎ (w ≡ 0) → All (λ r. length r ≡ w) rs
+      → ent 𝓤 ⟦ strided_owns b o (stride * 8) rs ⟧ ⟦ strided_owns b o step (concat rs ∷ []) ⟧
+  unfolded step w stride rs o tight all =
+      qed 𝓛 (‵ (strided_owns b o (stride * 8) rs) ∷ []) ∵ use1 𝓛 (‵ (cells (concat rs) o)) (rows_unmade w stride rs o tight all) $
+      use0 𝓛 (‵ ftrue) (id⊢ 𝓤 (emp 𝓤)) $ move ! (1 ∷ 0 ∷ []) $ fjoin ! $ done !
 
 module _ {M : Type 1} {𝓤 : Ura M} (𝓛 : Logic 𝓤) (v : Vec ℕ (Global.the_row).Denot) where
   abbrev Blk : Ptr → List ℕ → Fml

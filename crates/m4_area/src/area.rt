@@ -1,9 +1,10 @@
 //! The words of a rectangle, as a token that takes no memory itself: whoever has it may reach them.
 
-ghost use Rattle.std.specs.Prelude.{◌≡◌, ℕ, ◌+◌, ◌*◌, ◌^◌, ◌<◌, ◌≤◌, List, [], length, take, drop, map, ◌++◌};
-ghost use Rattle.std.specs.List.{All};
+ghost use Rattle.std.specs.Prelude.{◌≡◌, ℕ, ◌+◌, ◌*◌, ◌^◌, ◌<◌, ◌≤◌, ◌⊎◌, List, [], ◌∷◌, length, take, drop, map, ◌++◌};
+ghost use Rattle.std.specs.List.{All, concat};
 ghost use Rattle.std.specs.Simd.Lanes.{zip2};
 ghost use Rattle.m4_area.specs.Rows.{row_of};
+ghost use Rattle.m4_area.specs.Storage.{rows_of};
 ghost use Rattle.m4_area.specs.Strided.{strided_owns, strided_shares, IsRowAt};
 
 use std::marker::Model;
@@ -96,6 +97,29 @@ impl Area {
     {
         let Area {} = self;
         let Area {} = right;
+        Area {}
+    }
+
+    /// The words of the first row, as `rows` rows of `width` words, whose first words lie `stride` words apart.
+    #[inline]
+    pub(crate) fn fold(self, rows: usize, width: usize, stride: usize) -> Area
+        requires some { 0 < length self.rows }
+        requires tight { (stride ≡ width) ⊎ (width ≡ 0) }
+        ensures { result ≡ record self { step = stride * 8; rows = rows_of rows width (row_of self.rows 0) } }
+    {
+        let Area {} = self;
+        Area {}
+    }
+
+    /// The words of all rows, which follow each other with no gap, as one row of an area whose rows lie `apart` words apart.
+    #[inline]
+    pub(crate) fn unfold(self, width: usize, stride: usize, apart: usize) -> Area
+        requires step { self.step ≡ stride * 8 }
+        requires tight { (stride ≡ width) ⊎ (width ≡ 0) }
+        requires widths { All (λ row. length row ≡ width) self.rows }
+        ensures { result ≡ record self { step = apart * 8; rows = concat self.rows ∷ [] } }
+    {
+        let Area {} = self;
         Area {}
     }
 

@@ -8,6 +8,7 @@ ghost use Rattle.m4_area.specs.Rows.{row_of};
 use crate::area::Area;
 use std::marker::Model;
 
+mod folds;
 mod lends;
 mod lent;
 mod pairs;
