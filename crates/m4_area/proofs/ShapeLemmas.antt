@@ -19,14 +19,6 @@ rows_less r rows stride h =
 pub row_before : (r rows stride : ℕ) → r ≤ rows → r * stride ≤ rows * stride
 row_before r rows stride h = mul-le-mul_right stride h
 
-pub shape_above : (v : Rectangle) (r : ℕ) → HasShape v → r ≤ v.rows → HasShape (record v { rows = r; words = take r v.words })
-shape_above v r s h = record {
-  strided = s.strided;
-  count = length-take-le r v.words (omega (arith, s.count));
-  widths = All-take (λ row. length row ≡ v.width) r v.words s.widths;
-  small = omega (arith, s.small, row_before r v.rows v.place.stride h);
-}
-
 pub shape_below : (v : Rectangle) (r : ℕ) → HasShape v → r ≤ v.rows
     → HasShape (record v { skip = v.skip + r * v.place.stride; rows = v.rows - r; words = drop r v.words })
 shape_below v r s h = record {
@@ -35,19 +27,6 @@ shape_below v r s h = record {
   widths = All-drop (λ row. length row ≡ v.width) r v.words s.widths;
   small = omega (arith, s.small, rows_less r v.rows v.place.stride h);
 }
-
-pub shape_stacked : (v b : Rectangle) → HasShape v → HasShape b → b.place ≡ v.place → b.width ≡ v.width → b.skip ≡ v.skip + v.rows * v.place.stride
-    → HasShape (record v { rows = v.rows + b.rows; words = v.words ++ b.words })
-shape_stacked v b s t place width meets =
-    let stride : b.place.stride ≡ v.place.stride = ap (λ p. p.stride) place in
-    let rows : b.rows * b.place.stride ≡ b.rows * v.place.stride = ap (λ k. b.rows * k) stride in
-    record {
-      strided = s.strided;
-      count = omega (arith, length-append v.words b.words, s.count, t.count);
-      widths = All-append (λ row. length row ≡ v.width) v.words b.words s.widths
-          (All-weaker (λ row. length row ≡ b.width) (λ row. length row ≡ v.width) (λ row e. e ∙ width) b.words t.widths);
-      small = omega (arith, t.small, add-mul v.rows b.rows v.place.stride);
-    }
 
 pub shape_left : (v : Rectangle) (w : ℕ) → HasShape v → w ≤ v.width → HasShape (record v { width = w; words = map (take w) v.words })
 shape_left v w s h = record {

@@ -151,9 +151,6 @@ module _ (x y v u : Rectangle) (sees_x : x ≡ v) (sees_y : y ≡ u) where
   pub rows_told : u.rows ≡ v.rows → y.rows ≡ x.rows
   rows_told h = ap (λ r. r.rows) sees_y ∙ h ∙ sym (ap (λ r. r.rows) sees_x)
 
-  pub width_told : u.width ≡ v.width → y.width ≡ x.width
-  width_told h = ap (λ r. r.width) sees_y ∙ h ∙ sym (ap (λ r. r.width) sees_x)
-
   pub below_told : u.skip ≡ v.skip + v.rows * v.place.stride → y.skip ≡ x.skip + x.rows * x.place.stride
   below_told h = ap (λ r. r.skip) sees_y ∙ h ∙ sym (ap (λ r. r.skip + r.rows * r.place.stride) sees_x)
 

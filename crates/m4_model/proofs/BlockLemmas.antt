@@ -185,29 +185,6 @@ module _ {F : Field} {m n : ℕ} {A : Matrix} (a : HasShape F m n A) (p : ℕ �
       (λ below. HasShape-matrix_of A.field A.rows A.cols (λ i j. at A i (p j)) a.is_matrix.over_field
       (λ i j in_rows in_cols. a.is_matrix.elements i (p j) in_rows (below j in_cols)))
 
-module _ {F : Field} (laws : FieldLaws F) {m l n : ℕ} {A B : Matrix} (a : HasShape F m l A) (b : HasShape F l n B) (p : ℕ → ℕ) where
-  -- the rows of a product go as those of its left factor
-  pub product-picked_rows : ((i : ℕ) → i < m → p i < m) → product (picked_rows A p) B ≡ picked_rows (product A B) p
-  product-picked_rows below =
-      let moved = HasShape-picked_rows a p below in
-      let ab = HasShape-product a b laws in
-      same_entries (HasShape-product moved b laws) (HasShape-picked_rows ab p below) (λ i j in_rows in_cols.
-      at-product moved b i j in_rows in_cols
-      ∙ times-same F l (at (picked_rows A p)) (at B) (at A) (at B) i j (p i) j (λ t within. at-picked_rows a p i t in_rows within) (λ t within. refl)
-      ∙ sym (at-product a b (p i) j (below i in_rows) in_cols)
-      ∙ sym (at-picked_rows ab p i j in_rows in_cols))
-
-  -- the columns of a product go as those of its right factor
-  pub product-picked_cols : ((j : ℕ) → j < n → p j < n) → product A (picked_cols B p) ≡ picked_cols (product A B) p
-  product-picked_cols below =
-      let moved = HasShape-picked_cols b p below in
-      let ab = HasShape-product a b laws in
-      same_entries (HasShape-product a moved laws) (HasShape-picked_cols ab p below) (λ i j in_rows in_cols.
-      at-product a moved i j in_rows in_cols
-      ∙ times-same F l (at A) (at (picked_cols B p)) (at A) (at B) i j i (p j) (λ t within. refl) (λ t within. at-picked_cols b p t j within in_cols)
-      ∙ sym (at-product a b i (p j) in_rows (below j in_cols))
-      ∙ sym (at-picked_cols ab p i j in_rows in_cols))
-
 -- a sum of matrices side by side is the sums side by side
 pub added-beside : {F : Field} {m k n : ℕ} {A B C D : Matrix} → HasShape F m k A → HasShape F m n B → HasShape F m k C → HasShape F m n D
     → added (beside A B) (beside C D) ≡ beside (added A C) (added B D)

@@ -1,17 +1,16 @@
 -- A PLE gives a PLUQ, and what is stored in place tells its factors.
-use Rattle.std.proofs.Common.{Bool, true, false, ◌≡◌, ℕ, ◌<◌, ◌≤◌, ◌⊎◌, inl, inr, ⊎_elim, refl, sym, ◌∙◌, ap, subst, arith, List, length, slice_index, ◌&&◌, nat_lt, nat_le, if◌then◌else◌}
-use Rattle.std.proofs.lemmas.Bool.{cases_lt, cases_order, lt-ltb, le-ltb, le-leb, lt-leb}
+use Rattle.std.proofs.Common.{◌≡◌, ℕ, ◌<◌, ◌≤◌, ⊎_elim, refl, sym, ◌∙◌, ap, subst, arith, List, length, slice_index, ◌&&◌, nat_lt, nat_le, if◌then◌else◌}
+use Rattle.std.proofs.lemmas.Bool.{cases_lt, cases_order, lt-ltb, le-ltb, le-leb}
 use Rattle.m4_model.specs.Field.{Field}
 use Rattle.m4_model.specs.Matrix.{Matrix, IsMatrix, HasShape, at}
 use Rattle.m4_model.specs.Shapes.{swaps}
-use Rattle.m4_model.specs.Rank.{IsRising}
 use Rattle.m4_model.specs.Factors.{IsOrder, IsUnitLower, IsPle, IsUpper, IsPluq, Stored, StoredPluq, stored, stored_pluq}
 use Rattle.m4_model.proofs.FieldLaws.{FieldLaws}
 use Rattle.m4_model.proofs.MatrixLemmas.{at-table}
 use Rattle.m4_model.proofs.ProductLemmas.{times-same}
 use Rattle.m4_model.proofs.ShapeLemmas.{at_shape, same_entries, at-product}
 use Rattle.m4_model.proofs.BlockLemmas.{picked_cols, at-picked_cols, HasShape-picked_cols}
-use Rattle.m4_model.proofs.ExchangeLemmas.{IsOrder-swaps, swaps-rising, rising_room, rising-at_least}
+use Rattle.m4_model.proofs.ExchangeLemmas.{IsOrder-swaps, swaps-rising, rising_room}
 use Rattle.m4_model.proofs.RankLemmas.{pivots_of_ple}
 
 module _ (A : Matrix) (p q : List ℕ) (r : ℕ) (L E : Matrix) (laws : FieldLaws A.field) (is_matrix : IsMatrix A) (ple : IsPle A p q r L E) where
@@ -109,15 +108,6 @@ module _ {F : Field} {m n : ℕ} {E : Matrix} (e : HasShape F m n E) (q : List �
   at-stored_upper i j below right within over from =
       entry_stored i j below right ∙ rw (le-ltb j i over, lt-ltb i (length q) within, le-leb (slice_index q i) j from) refl
 
-  -- and zeros elsewhere: before a pivot, from the diagonal on
-  pub at-stored_before : (i j : ℕ) → i < m → j < n → i ≤ j → j < slice_index q i → at W i j ≡ 0
-  at-stored_before i j below right over before =
-      entry_stored i j below right ∙ rw (le-ltb j i over) (from_tests (nat_lt i (length q)) (nat_le (slice_index q i) j) (lt-leb (slice_index q i) j before))
-    where
-      from_tests : (a b : Bool) → b ≡ false → (if a && b then at E i j else 0) ≡ 0
-      from_tests true b none = rw none refl
-      from_tests false b none = refl
-
 -- lower factors that agree below the diagonal in their first r columns are equal
 pub same_unit_lower : {F : Field} {m : ℕ} {L M : Matrix} (r : ℕ) → HasShape F m m L → HasShape F m m M → IsUnitLower r L → IsUnitLower r M
     → ((i j : ℕ) → i < m → j < i → j < r → at L i j ≡ at M i j) → L ≡ M
@@ -136,38 +126,6 @@ same_unit_lower {F} {m} {L} {M} r l_shape m_shape l_form m_form agree =
     (λ (rest : r ≤ j). l_form.rest i j rest under (omega (arith, below)) ∙ sym (m_form.rest i j rest under (omega (arith, below))))
     (cases_lt j r)))
     (cases_order i j))
-
-module _ {F : Field} {m n : ℕ} {L M E D : Matrix} (q : List ℕ) (W : Matrix) (rising : IsRising q) (columns : (k : ℕ) → k < length q → slice_index q k < n)
-    (e : HasShape F m n E) (d : HasShape F m n D) (first : Stored W q L E) (second : Stored W q M D) where
-  -- what is stored tells the lower factor
-  pub same_stored_lower : HasShape F m m L → HasShape F m m M → L ≡ M
-  same_stored_lower l_shape m_shape =
-      let room = rising_room q n rising columns in
-      same_unit_lower (length q) l_shape m_shape first.l_form second.l_form (λ i j below under within.
-      sym (at-stored_lower e q L W first i j below (omega (arith, within, room)) under within)
-      ∙ at-stored_lower d q M W second i j below (omega (arith, within, room)) under within)
-
-  -- and the echelon form
-  pub same_stored_upper : E ≡ D
-  same_stored_upper =
-      let e_rows = e.rows in
-      let e_cols = e.cols in
-      let d_rows = d.rows in
-      let d_cols = d.cols in
-      let zero : (i j : ℕ) → i < m → j < n → (length q ≤ i) ⊎ (j < slice_index q i) → at E i j ≡ at D i j
-      = λ i j below right place.
-      first.e_zeros i j (omega (arith, below)) (omega (arith, right)) place
-      ∙ sym (second.e_zeros i j (omega (arith, below)) (omega (arith, right)) place) in
-      same_entries e d (λ i j below right. ⊎_elim
-      (λ (pivoted : i < length q). ⊎_elim
-      (λ (before : j < slice_index q i). zero i j below right (inr before))
-      (λ (from : slice_index q i ≤ j).
-      let least = rising-at_least q i rising pivoted in
-      sym (at-stored_upper e q L W first i j below right pivoted (omega (arith, least, from)) from)
-      ∙ at-stored_upper d q M W second i j below right pivoted (omega (arith, least, from)) from)
-      (cases_lt j (slice_index q i)))
-      (λ (rest : length q ≤ i). zero i j below right (inl rest))
-      (cases_lt i (length q)))
 
 -- the entries of a matrix in which L and U are stored
 module _ {F : Field} {m n : ℕ} {U : Matrix} (u : HasShape F m n U) (r : ℕ) (L W : Matrix) (is_stored : StoredPluq W r L U) where

@@ -1,5 +1,5 @@
 -- Headed texts over every field, in both versions, on small cases that a reader can work by hand.
-use Rattle.std.proofs.Common.{◌≡◌, ℕ, ◌+◌, ◌*◌, ◌<◌, ◌≤◌, List, [], ◌∷◌, ◌++◌, length, get_or, refl, ap, codes, arith, lit<, lit≤}
+use Rattle.std.proofs.Common.{◌≡◌, ℕ, List, [], ◌∷◌, get_or, refl, ap, codes, arith, lit<, lit≤}
 use Rattle.std.specs.Fmt.{digits}
 use Rattle.m4_model.specs.Field.{Field, gf2, width, clmul, sum_below, bits_within}
 use Rattle.m4_model.specs.Matrix.{Matrix}

@@ -22,10 +22,6 @@ xor_exchange a b c d =
 pub xor_twice : (a b : ℕ) → bit_xor a (bit_xor a b) ≡ b
 xor_twice a b = sym (xor_assoc a a b) ∙ ap (λ x. bit_xor x b) (xor_self a) ∙ xor_zero_l b
 
--- terms with the same sum with a are equal
-pub xor_cancel : (a b c : ℕ) → bit_xor a b ≡ bit_xor a c → b ≡ c
-xor_cancel a b c same = sym (xor_twice a b) ∙ ap (bit_xor a) same ∙ xor_twice a c
-
 -- a sum that is zero has equal terms
 pub xor_zero_equal : (a b : ℕ) → bit_xor a b ≡ 0 → a ≡ b
 xor_zero_equal a b none = sym (xor_zero_r a) ∙ ap (bit_xor a) (sym none) ∙ xor_twice a b

@@ -1,5 +1,5 @@
 -- What a product by halves takes: one level, and no less for greater sides.
-use Rattle.std.proofs.Common.{◌≡◌, ℕ, zero, suc, ◌+◌, ◌*◌, ◌/◌, ◌<◌, ◌≤◌, Bool, true, false, nat_lt, nat_le, ◌&&◌, refl, sym, ◌∙◌, ap, arith, ⊎_elim, ltb-true, leb-true, lt-ltb, if◌then◌else◌}
+use Rattle.std.proofs.Common.{◌≡◌, ℕ, zero, suc, ◌+◌, ◌*◌, ◌<◌, ◌≤◌, true, false, nat_lt, nat_le, ◌&&◌, refl, sym, ap, arith, ⊎_elim, ltb-true, leb-true, lt-ltb}
 use Rattle.std.proofs.Math.Nat.{mul-le-mul_left, mul_comm}
 use Rattle.std.proofs.lemmas.Bool.{and_parts, cases_Bool, le-leb}
 use Rattle.m4_model.specs.Recursion.{is_cut, half, within_levels, by_halves, level_words, need, products}

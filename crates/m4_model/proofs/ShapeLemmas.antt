@@ -48,12 +48,6 @@ pub HasShape-matrix_of : (F : Field) (m n : ℕ) (g : ℕ → ℕ → ℕ) → I
 HasShape-matrix_of F m n g field elements =
     record { is_matrix = IsMatrix-matrix_of F m n g field elements; over = refl; rows = refl; cols = refl }
 
--- matrices made of the same entries are equal
-pub same_made : (F : Field) (m n : ℕ) (g h : ℕ → ℕ → ℕ) → IsField F → ((i j : ℕ) → i < m → j < n → IsElement F (g i j))
-    → ((i j : ℕ) → i < m → j < n → g i j ≡ h i j) → matrix_of F m n g ≡ matrix_of F m n h
-same_made F m n g h field elements same =
-    same_from_entries (HasShape-matrix_of F m n g field elements) h (λ i j in_rows in_cols. at-table m n g i j in_rows in_cols ∙ same i j in_rows in_cols)
-
 -- the entry of a matrix made of entries
 pub at-matrix_of : (F : Field) (m n : ℕ) (g : ℕ → ℕ → ℕ) (i j : ℕ) → i < m → j < n → at (matrix_of F m n g) i j ≡ g i j
 at-matrix_of F m n g i j in_rows in_cols = at-table m n g i j in_rows in_cols

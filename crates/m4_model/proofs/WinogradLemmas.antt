@@ -1,11 +1,11 @@
 -- Sums of matrices in any order, and the seven products of quarters.
-use Rattle.std.proofs.Common.{◌≡◌, ℕ, zero, suc, ◌<◌, List, [], ◌∷◌, length, get_or, map, refl, sym, ◌∙◌, ap, ap₂, arith, bit_xor}
+use Rattle.std.proofs.Common.{◌≡◌, ℕ, zero, suc, ◌<◌, List, [], ◌∷◌, length, get_or, map, refl, sym, ◌∙◌, ap, ap₂, bit_xor}
 use Rattle.std.specs.List.{range_with_len}
 use Rattle.std.proofs.lemmas.List.{length-map}
 use Rattle.m4_model.specs.Field.{Field, IsField}
 use Rattle.m4_model.specs.Matrix.{Matrix, HasShape, at, zero_matrix, added, product}
 use Rattle.m4_model.specs.Shapes.{above, beside}
-use Rattle.m4_model.specs.Recursion.{Quartered, HaveShape, joined, winograd, s1, s2, s3, s4, t1, t2, t3, t4, u2, u3, u4}
+use Rattle.m4_model.specs.Recursion.{Quartered, HaveShape, joined, winograd, s1, s2, s3, s4, t1, t2, t3, t4, u3, u4}
 use Rattle.m4_model.proofs.FieldLaws.{FieldLaws}
 use Rattle.m4_model.proofs.ShapeLemmas.{IsField-shape, same_entries, HasShape-zero_matrix, at-zero_matrix, at-added, HasShape-added, HasShape-product}
 use Rattle.m4_model.proofs.RingLemmas.{product-added_left, product-added_right}

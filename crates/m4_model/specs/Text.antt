@@ -23,11 +23,21 @@ IsHeaderNumber n = n < 10 ^ 9
 abbrev pub words_per_row : ℕ → ℕ
 words_per_row n = (n + 63) / 64
 
+-- The most rows, columns and words of a file's or a result's matrix.
+abbrev pub most_rows : ℕ
+most_rows = 65536
+
+abbrev pub most_cols : ℕ
+most_cols = 65536
+
+abbrev pub most_words : ℕ
+most_words = 2 ^ 22
+
 -- The limits on a file's or a result's m x n matrix whose entries take so many bits.
 pub record IsWithinLimits (bits m n : ℕ) : Type 0 where
-  pub rows : m ≤ 65536
-  pub cols : n ≤ 65536
-  pub words : m * words_per_row (n * bits) ≤ 2 ^ 22
+  pub rows : m ≤ most_rows
+  pub cols : n ≤ most_cols
+  pub words : m * words_per_row (n * bits) ≤ most_words
 
 -- A matrix over GF(2) within the limits.
 pub record InLimits (M : Matrix) : Type 0 where

@@ -143,24 +143,3 @@ all_below q n rising below = record {
 pub others_count : (n : ℕ) (q g : List ℕ) → IsRising q → ((s : ℕ) → s < length q → slice_index q s < n) → AreOthers n q g → length q + length g ≡ n
 others_count n q g rising below others =
     parted_count n (length q) (length g) q g (all_below q n rising below) (all_below g n others.rising others.below) others.apart others.rest
-
--- the rank and the rows of the basis of the kernel are all columns, whichever way the basis was made
-pub kernel_rows : (A K : Matrix) (r : ℕ) → IsRank A r → IsKernel K A → K.rows + r ≡ A.cols
-kernel_rows A K r rank kernel =
-    let q = rank.0 in
-    let g = kernel.free in
-    let pivots = rank.1 in
-    let free = kernel.are_free in
-    let count = others_count A.cols q g pivots.rising pivots.columns (record {
-      rising = free.rising;
-      below = free.columns;
-      apart = λ t s inside within same. pivots.unfree s within (subst (IsFree A) (sym same) (free.free t inside));
-      rest = λ j below none. ⊎_elim
-          (λ (found : (s : ℕ) × (s < length q) × (slice_index q s ≡ j)). found)
-          (λ (missing : (s : ℕ) → s < length q → slice_index q s ≢ j).
-          absurd (free.others j below (Contains_none g j none) (pivots.others j below (Contains_none q j missing))))
-          (place_of q j);
-    }) in
-    let rows = kernel.shape.rows in
-    let same = rank.2 in
-    omega (arith, count, rows, same)
