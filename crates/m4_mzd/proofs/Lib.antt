@@ -1,6 +1,7 @@
 pub mod AroundFacts
 pub mod AroundLemmas
 pub mod BitRows
+pub mod BlockedLemmas
 pub mod ContentLemmas
 pub mod CutLemmas
 pub mod EqualLemmas

@@ -7,7 +7,8 @@ use Rattle.m4_mzd.specs.Window.{Window, IsWindow, content, showing}
 use Rattle.m4_mzd.proofs.PairLemmas.{upper, lower, stacked}
 use Rattle.m4_trsm.specs.Triangles.{unit_lower, unit_upper}
 use Rattle.m4_trsm.proofs.Halves.{lower_left, upper_left, lower_right, upper_right}
-use Rattle.m4_trsm.proofs.Windows.{stays_more, shown_above, top_shape, bottom_shape, parted_above, before, behind, paired, shown_beside, left_shape, right_shape, parted_beside}
+use Rattle.m4_trsm.proofs.Windows.{stays_more}
+use Rattle.m4_mzd.proofs.BlockedLemmas.{shown_above, top_shape, bottom_shape, parted_above, before, behind, paired, shown_beside, left_shape, right_shape, parted_beside}
 
 -- A part of a window that was written: as it was cut off, and as it is joined again. Both are windows, and the second is the
 -- first but for its entries.

@@ -12,6 +12,7 @@ use Rattle.m4_mzd.specs.Window.{Window, IsWindow, content, showing}
 use Rattle.m4_mzd.specs.Seen.{shown}
 use Rattle.m4_mzd.specs.declared.win.Win.{Win}
 use Rattle.m4_mzd.proofs.PairLemmas.{upper, lower, stacked}
+use Rattle.m4_mzd.proofs.BlockedLemmas.{rows_joined}
 use Rattle.std.specs.Simd.Lanes.{zip2}
 use Rattle.m4_mzd.proofs.ContentLemmas.{content_above, content_beside}
 use Rattle.m4_mzd.proofs.WindowLemmas.{same_window}
@@ -48,13 +49,6 @@ IsWindow-as_window w matrix few_rows few_cols =
 pub stays_more : (a b c : Window) (A : Matrix) → b ≡ showing a (content b) → c ≡ showing b A → c ≡ showing a (content c)
 stays_more a b c A first second =
     second ∙ ap (λ (w : Window). record b { bits = w.bits }) (sym second) ∙ ap (λ (w : Window). showing w (content c)) first
-
--- rows that are cut at row k, and joined again with other entries
-pub rows_joined : (w : Window) (k : ℕ) (tops bottoms : List (List ℕ)) → k ≤ w.rows
-    → stacked (record (upper w k) { bits = tops }) (record (lower w k) { bits = bottoms }) ≡ record w { bits = tops ++ bottoms }
-rows_joined w k tops bottoms within =
-    let rows : k + (w.rows - k) ≡ w.rows = omega arith in
-    same_window _ _ refl refl rows refl refl (take-append-drop k w.past)
 
 -- with the entries of a function
 rows_made : (w : Window) (k : ℕ) (tops bottoms : List (List ℕ)) (g : ℕ → ℕ → ℕ) → k ≤ w.rows → length tops ≡ k → length bottoms ≡ w.rows - k
@@ -121,53 +115,3 @@ module _ (w : Window) (T : Matrix) (i : ℕ) (shape : IsWindow w) (within : i < 
       ∙ ap (λ x. bit_xor (at (content w) r j) (mul gf2 (at (content w) i j) x)) (sym (cond-true (ltb r i) _ _ (lt-ltb r i below))))
       (λ r j below inside_cols. ap (λ l. get_or l j 0) (get_or-drop i w.bits r [])
       ∙ unchanged (i + r) j (omega arith) (inside Upper T (i + r) i) (cond-false (ltb (i + r) i) _ _ (le-ltb (i + r) i (omega arith))))
-
--- two windows, one over the other, that were cut from one
-module _ (w a b : Window) (k : ℕ) (within : k ≤ w.rows) (s : IsWindow a) (t : IsWindow b)
-    (top : a ≡ showing (upper w k) (content a)) (bottom : b ≡ showing (lower w k) (content b)) where
-  pub shown_above : content (stacked a b) ≡ above (content a) (content b)
-  shown_above = content_above a b s t (ap (λ (x : Window). x.cols) bottom ∙ sym (ap (λ (x : Window). x.cols) top))
-
-  pub top_shape : HasShape gf2 k w.cols (content a)
-  top_shape = record { is_matrix = s.matrix; over = refl; rows = ap (λ (x : Window). x.rows) top; cols = ap (λ (x : Window). x.cols) top }
-
-  pub bottom_shape : HasShape gf2 (w.rows - k) w.cols (content b)
-  bottom_shape = record { is_matrix = t.matrix; over = refl; rows = ap (λ (x : Window). x.rows) bottom; cols = ap (λ (x : Window). x.cols) bottom }
-
-pub parted_above : (w : Window) (k : ℕ) → k ≤ w.rows → IsWindow (upper w k) → IsWindow (lower w k)
-    → above (content (upper w k)) (content (lower w k)) ≡ content w
-parted_above w k within s t =
-    sym (shown_above w (upper w k) (lower w k) k within s t refl refl)
-    ∙ ap content (rows_joined w k (take k w.bits) (drop k w.bits) within)
-    ∙ ap (λ (rows : List (List ℕ)). content (record w { bits = rows })) (take-append-drop k w.bits)
-
--- two windows, one beside the other
-abbrev pub before : Window → ℕ → Window
-before w c = record w { cols = c; bits = map (take c) w.bits; past = map (λ _. []) w.past }
-
-abbrev pub behind : Window → ℕ → Window
-behind w c = record w { skip = w.skip + c / 64; cols = w.cols - c; bits = map (drop c) w.bits }
-
-abbrev pub paired : Window → Window → Window
-paired a b = record a { cols = a.cols + b.cols; bits = zip2 (λ l r. l ++ r) a.bits b.bits; past = b.past }
-
-module _ (w a b : Window) (c : ℕ) (s : IsWindow a) (t : IsWindow b) (left : a ≡ showing (before w c) (content a)) (right : b ≡ showing (behind w c) (content b)) where
-  pub shown_beside : content (paired a b) ≡ beside (content a) (content b)
-  shown_beside = content_beside a b s t (ap (λ (x : Window). x.rows) right ∙ sym (ap (λ (x : Window). x.rows) left))
-
-  pub left_shape : HasShape gf2 w.rows c (content a)
-  left_shape = record { is_matrix = s.matrix; over = refl; rows = ap (λ (x : Window). x.rows) left; cols = ap (λ (x : Window). x.cols) left }
-
-  pub right_shape : HasShape gf2 w.rows (w.cols - c) (content b)
-  right_shape = record { is_matrix = t.matrix; over = refl; rows = ap (λ (x : Window). x.rows) right; cols = ap (λ (x : Window). x.cols) right }
-
-rows_again : (c : ℕ) (rows : List (List ℕ)) → zip2 (λ l r. l ++ r) (map (take c) rows) (map (drop c) rows) ≡ rows
-rows_again c [] = refl
-rows_again c (row ∷ rows) = λ i. take-append-drop c row i ∷ rows_again c rows i
-
-pub parted_beside : (w : Window) (c : ℕ) → c ≤ w.cols → IsWindow (before w c) → IsWindow (behind w c)
-    → beside (content (before w c)) (content (behind w c)) ≡ content w
-parted_beside w c within s t =
-    let cols : c + (w.cols - c) ≡ w.cols = omega arith in
-    sym (shown_beside w (before w c) (behind w c) c s t refl refl)
-    ∙ (λ i. record (content w) { cols = cols i; entries = rows_again c w.bits i })

@@ -2,7 +2,7 @@ use Rattle.std.proofs.Common.{◌-◌, refl, sym, ap, ◌∙◌, arith}
 use Rattle.m4_model.specs.Matrix.{Matrix}
 use Rattle.m4_mzd.specs.Seen.{shown}
 use Rattle.m4_mzd.proofs.PairLemmas.{upper, lower}
-use Rattle.m4_mul.proofs.BlockedLemmas.{rows_added}
+use Rattle.m4_mzd.proofs.BlockedLemmas.{rows_added}
 use Rattle.m4_mul.proofs.blocks.+add_by_rows.Goals as goal
 
 pub returns-clause-sum : goal.returns-clause-sum

@@ -1,7 +1,7 @@
 use Rattle.std.proofs.Common.{◌-◌, refl, sym, ap, ◌∙◌, arith}
 use Rattle.m4_model.specs.Matrix.{Matrix}
 use Rattle.m4_mzd.specs.Seen.{shown}
-use Rattle.m4_mul.proofs.BlockedLemmas.{before, behind, cols_added}
+use Rattle.m4_mzd.proofs.BlockedLemmas.{before, behind, cols_added}
 use Rattle.m4_mul.proofs.blocks.+add_in_blocks.Goals as goal
 
 pub returns-clause-sum : goal.returns-clause-sum

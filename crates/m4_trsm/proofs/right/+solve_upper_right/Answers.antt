@@ -1,6 +1,6 @@
 use Rattle.std.proofs.Common.{refl, ap, ◌∙◌, arith}
 use Rattle.m4_mzd.specs.Seen.{shown}
-use Rattle.m4_trsm.proofs.Windows.{before, behind}
+use Rattle.m4_mzd.proofs.BlockedLemmas.{before, behind}
 use Rattle.m4_trsm.proofs.Solves.{written_once, written_twice, solved_upper_right}
 use Rattle.m4_trsm.proofs.right.+solve_upper_right.Goals as goal
 
