@@ -1,6 +1,6 @@
 //! The words of a matrix, which are freed with it.
 
-ghost use Rattle.std.specs.Prelude.{◌≡◌, ◌+◌, ◌*◌, ◌^◌, ◌<◌, []};
+ghost use Rattle.std.specs.Prelude.{◌≡◌, ◌+◌, ◌*◌, ◌^◌, ◌<◌, [], max};
 ghost use Rattle.std.specs.Vec.{vec_len};
 ghost use Rattle.m4_area.specs.Storage.{frame_of, rows_of};
 
@@ -39,6 +39,8 @@ impl OwnedWords {
         ensures rows { result.rows ≡ rows }
         ensures width { result.width ≡ width }
         ensures words { result.words ≡ rows_of rows width vec.items }
+        ensures first { result.skip ≡ 0 }
+        ensures no_gap { result.place.stride ≡ max width 1 }
     {
         let alloc = *vec.allocator();
         let (words, storage) = Words::from_vec(vec, rows, width);

@@ -63,6 +63,15 @@ impl Words {
         self.width
     }
 
+    /// How many words lie between the first words of one row and of the next.
+    #[inline]
+    pub fn stride(&self) -> usize
+        ensures stride { result ≡ self.now.place.stride }
+        ensures shape { HasShape self.now }
+    {
+        self.stride
+    }
+
     /// The words of row `r`.
     #[inline]
     pub fn row(&self, r: usize) -> &[u64]

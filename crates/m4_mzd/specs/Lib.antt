@@ -10,4 +10,5 @@ pub mod Reach
 pub mod Rows
 pub mod Seen
 pub mod Shown
+pub mod Span
 pub mod Window

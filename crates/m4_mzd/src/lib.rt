@@ -5,11 +5,16 @@
 /// The most rows, and the most columns, of a matrix in memory.
 pub const MOST_SIDE: u32 = 1 << 24;
 
+/// The most words of a scratch.
+pub const MOST_WORDS: u64 = 1 << 43;
+
 mod add_mul;
 mod columns;
 mod made_up;
 mod mzd;
 mod rect;
+mod room;
+mod scratch;
 mod steps;
 #[cfg(test)]
 mod tests;
@@ -21,6 +26,8 @@ pub use add_mul::{AddMul, Shape};
 pub use made_up::mixed;
 pub use mzd::{Around, Home, Mzd};
 pub use rect::{Rect, RectFault};
+pub use room::Room;
+pub use scratch::Scratch;
 pub use steps::Steps;
 pub use win::Win;
 pub use win_mut::WinMut;

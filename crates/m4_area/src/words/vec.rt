@@ -1,6 +1,6 @@
 //! A rectangle of all the words of a `Vec`.
 
-ghost use Rattle.std.specs.Prelude.{◌≡◌, ◌+◌, ◌*◌, ◌^◌, ◌<◌};
+ghost use Rattle.std.specs.Prelude.{◌≡◌, ◌+◌, ◌*◌, ◌^◌, ◌<◌, max};
 ghost use Rattle.std.specs.Vec.{vec_len};
 ghost use Rattle.std.specs.List.{concat};
 ghost use Rattle.m4_area.specs.Rectangle.{HasShape};
@@ -17,6 +17,8 @@ impl Words {
         ensures rows { result.0.rows ≡ rows }
         ensures width { result.0.width ≡ width }
         ensures words { result.0.words ≡ rows_of rows width vec.items }
+        ensures first { result.0.skip ≡ 0 }
+        ensures no_gap { result.0.place.stride ≡ max width 1 }
         ensures storage { result.1 ≡ frame_of result.0 }
     {
         let base = vec.as_mut_ptr();

@@ -14,9 +14,10 @@ use crate::win::Win;
 use crate::win_mut::WinMut;
 use m4_area::{Storage, View};
 
-/// The memory that the words of a matrix go back to, while the matrix is out as a window.
+/// The memory that the words of a matrix go back to, while the matrix is out as a window, or those of a scratch, while it
+/// is out as room.
 pub struct Home {
-    storage: Storage,
+    pub(crate) storage: Storage,
 }
 
 impl Mzd {
