@@ -26,6 +26,7 @@ pub(crate) fn multiply(alloc: Global, method: Method, a: &Mzd, b: &Mzd) -> Resul
 /// The product of two matrices by an engine.
 fn multiply_by<E: AddMul>(alloc: Global, engine: &mut E, a: &Mzd, b: &Mzd) -> Result<Mzd, NoMemory>
     requires inner { a.now.cols ≡ b.now.rows }
+    requires ready { E.ready engine.old }
     requires reached { IsReached (E.limits engine.old) a.now.rows a.now.cols b.now.cols }
     ensures { IfOk result (λ c. c ≡ product a.now b.now) }
 {
@@ -71,6 +72,7 @@ fn add_product_by<E: AddMul>(engine: &mut E, c: &mut Mzd, rect: Rect, a: &Mzd, b
     requires inner { a.now.cols ≡ b.now.rows }
     requires rows { rect.r1 ≡ rect.r0 + a.now.rows }
     requires cols { rect.c1 ≡ rect.c0 + b.now.cols }
+    requires ready { E.ready engine.old }
     requires reached { IsReached (E.limits engine.old) a.now.rows a.now.cols b.now.cols }
     ensures { c.new ≡ replace c.old rect.r0 rect.c0 (added (cut c.old rect.r0 rect.c0 rect.r1 rect.c1) (product a.now b.now)) }
 {

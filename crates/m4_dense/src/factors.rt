@@ -102,6 +102,7 @@ fn ple_in_room<M: AddMul>(
 ) -> Result<PleFactors, NoMemory>
     requires exchanges { length exchanges.old ≡ a.rows }
     requires pivots { length pivots.old ≡ a.rows }
+    requires ready { M.ready context.old.engine }
     requires serves { Serves (M.limits context.old.engine) context.old.cutoff a.rows a.cols }
     ensures { IfOk result (IsPleOf a) }
 {
@@ -156,6 +157,7 @@ fn pluq_in_room<M: AddMul>(
 ) -> Result<PluqFactors, NoMemory>
     requires exchanges { length exchanges.old ≡ a.rows }
     requires pivots { length pivots.old ≡ a.rows }
+    requires ready { M.ready context.old.engine }
     requires serves { Serves (M.limits context.old.engine) context.old.cutoff a.rows a.cols }
     ensures { IfOk result (IsPluqOf a) }
 {

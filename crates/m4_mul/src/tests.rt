@@ -56,6 +56,7 @@ fn the_factors_are_parts_of_the_same_matrix(rt: HostRuntime) -> Result<(), Fail>
 fn times<E: AddMul>(alloc: Global, engine: &mut E, a: &Mzd, b: &Mzd) -> Result<Mzd, NoMemory>
     requires square { (a.now.rows ≡ a.now.cols) × (b.now.cols ≡ a.now.cols) }
     requires inner { a.now.cols ≡ b.now.rows }
+    requires ready { E.ready engine.old }
     requires reached { IsReached (E.limits engine.old) a.now.rows a.now.cols a.now.cols }
     ensures { IfOk result (λ c. (c.rows ≡ a.now.rows) × (c.cols ≡ a.now.cols)) }
 {
@@ -144,6 +145,7 @@ fn add_by<E: AddMul>(engine: &mut E, c: &mut Mzd, a: &Mzd, b: &Mzd)
     requires rows { a.now.rows ≡ c.old.rows }
     requires inner { a.now.cols ≡ b.now.rows }
     requires cols { b.now.cols ≡ c.old.cols }
+    requires ready { E.ready engine.old }
     requires reached { IsReached (E.limits engine.old) c.old.rows a.now.cols c.old.cols }
 {
     let (mut all, home) = c.all_mut();

@@ -22,7 +22,7 @@ mod win;
 mod win_mut;
 mod word;
 
-pub use add_mul::{AddMul, Shape};
+pub use add_mul::{AddMul, Shape, counted};
 pub use made_up::mixed;
 pub use mzd::{Around, Home, Mzd};
 pub use rect::{Rect, RectFault};

@@ -7,7 +7,7 @@ use crate::add_mul::EAddMul;
 use m4_mzd::{AddMul, Shape};
 use m4_mzed::{EWin, EWinMut};
 
-/// An engine for matrices of bits, as one for matrices over GF(2).
+/// An engine for matrices of bits, as one for matrices over GF(2), as long as it can be called.
 #[derive(Drop)]
 pub struct OverBits<M> {
     pub engine: M,
@@ -16,7 +16,7 @@ pub struct OverBits<M> {
 impl<M: AddMul> EAddMul for OverBits<M> {
     ghost limits = { λ e. M.limits e.engine };
 
-    ghost IsFor = { λ e F. F ≡ gf2 };
+    ghost IsFor = { λ e F. (F ≡ gf2) × M.ready e.engine };
 
     #[inline]
     fn reach(&self) -> Shape {

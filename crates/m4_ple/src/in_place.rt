@@ -28,6 +28,7 @@ pub fn ple<M: AddMul>(
 ) -> u32
     requires exchanges { length p.old ≡ a.old.rows }
     requires pivots { (length q.old ≡ a.old.rows) ⊎ (a.old.cols ≤ length q.old) }
+    requires ready { M.ready _engine.old }
     requires reached { (l : ℕ) → l ≤ a.old.rows → l ≤ a.old.cols → IsReached (M.limits _engine.old) a.old.rows l a.old.cols }
     requires cutoff { 64 ≤ _cutoff }
     ensures kept { a.new ≡ showing a.old (content a.new) }
@@ -38,6 +39,7 @@ pub fn ple<M: AddMul>(
     ensures rank { result ≤ length q.new }
     ensures factors { HoldsPle (content a.old) (swaps a.old.rows p.new) (take result q.new) (content a.new) }
     ensures reach { M.limits _engine.new ≡ M.limits _engine.old }
+    ensures still_ready { M.ready _engine.new }
 {
     ple_plain(a, p, q)
 }
@@ -56,6 +58,7 @@ pub fn pluq<M: AddMul>(
 ) -> u32
     requires exchanges { length p.old ≡ a.old.rows }
     requires pivots { (length q.old ≡ a.old.rows) ⊎ (a.old.cols ≤ length q.old) }
+    requires ready { M.ready engine.old }
     requires reached { (l : ℕ) → l ≤ a.old.rows → l ≤ a.old.cols → IsReached (M.limits engine.old) a.old.rows l a.old.cols }
     requires cutoff { 64 ≤ cutoff }
     ensures kept { a.new ≡ showing a.old (content a.new) }
@@ -69,6 +72,7 @@ pub fn pluq<M: AddMul>(
     ensures pivots { ArePivots (content a.old) (take result q.new) }
     ensures factors { HoldsPluq (content a.old) (swaps a.old.rows p.new) (swaps a.old.cols (take result q.new)) result (content a.new) }
     ensures reach { M.limits engine.new ≡ M.limits engine.old }
+    ensures still_ready { M.ready engine.new }
 {
     let _rows = a.rows();
     let rank = ple(a, p, q, engine, cutoff);

@@ -19,11 +19,13 @@ use std::alloc::Global;
 ///
 /// A PLE is made in place, its echelon form is kept, and the entries above the pivots are cleared. It refuses no shape.
 pub fn echelon<M: AddMul>(alloc: Global, a: &mut Mzd, ctx: &mut Ctx<M>) -> Result<u32, NoMemory>
+    requires ready { M.ready ctx.old.engine }
     requires serves { Serves (M.limits ctx.old.engine) ctx.old.cutoff a.old.rows a.old.cols }
     ensures reduced { IfOk result (λ r. IsReduced a.new a.old) }
     ensures rank { IfOk result (IsRank a.old) }
     ensures kept { IfErr result (λ _. a.new ≡ a.old) }
     ensures engine { M.limits ctx.new.engine ≡ M.limits ctx.old.engine }
+    ensures still_ready { M.ready ctx.new.engine }
     ensures cutoff { ctx.new.cutoff ≡ ctx.old.cutoff }
 {
     let mut room = Room::new(alloc, a.rows(), a.cols())?;
@@ -44,9 +46,11 @@ impl ReducedForm {
         a: Mzd,
         ctx: &mut Ctx<M>,
     ) -> Result<ReducedForm, NoMemory>
+        requires ready { M.ready ctx.old.engine }
         requires serves { Serves (M.limits ctx.old.engine) ctx.old.cutoff a.rows a.cols }
         ensures reduced { IfOk result (λ form. IsReducedAt form.matrix a form.pivots.items) }
         ensures engine { M.limits ctx.new.engine ≡ M.limits ctx.old.engine }
+        ensures still_ready { M.ready ctx.new.engine }
         ensures cutoff { ctx.new.cutoff ≡ ctx.old.cutoff }
     {
         let mut matrix = a;
@@ -67,6 +71,7 @@ pub fn reduced_form<M: AddMul>(
     a: &Win,
     ctx: &mut Ctx<M>,
 ) -> Result<ReducedForm, NoMemory>
+    requires ready { M.ready ctx.old.engine }
     requires serves { Serves (M.limits ctx.old.engine) ctx.old.cutoff (shown a.now).rows (shown a.now).cols }
     ensures reduced { IfOk result (λ form. IsReducedAt form.matrix (shown a.now) form.pivots.items) }
     ensures form { IfOk result (λ form. Reduced form.matrix form.pivots.items) }
@@ -74,6 +79,7 @@ pub fn reduced_form<M: AddMul>(
     ensures few_rows { IfOk result (λ form. length form.pivots.items ≤ (shown a.now).rows) }
     ensures few_cols { IfOk result (λ form. length form.pivots.items ≤ (shown a.now).cols) }
     ensures engine { M.limits ctx.new.engine ≡ M.limits ctx.old.engine }
+    ensures still_ready { M.ready ctx.new.engine }
     ensures cutoff { ctx.new.cutoff ≡ ctx.old.cutoff }
 {
     let _cols = a.cols();
@@ -85,9 +91,11 @@ pub fn reduced_form<M: AddMul>(
 /// The rank of a matrix of any shape: the number of its pivots, told by a PLE of a copy. It refuses nothing, but memory may
 /// be wanting.
 pub fn rank<M: AddMul>(alloc: Global, a: &Win, ctx: &mut Ctx<M>) -> Result<u32, NoMemory>
+    requires ready { M.ready ctx.old.engine }
     requires serves { Serves (M.limits ctx.old.engine) ctx.old.cutoff (shown a.now).rows (shown a.now).cols }
     ensures rank { IfOk result (IsRank (shown a.now)) }
     ensures engine { M.limits ctx.new.engine ≡ M.limits ctx.old.engine }
+    ensures still_ready { M.ready ctx.new.engine }
     ensures cutoff { ctx.new.cutoff ≡ ctx.old.cutoff }
 {
     let mut copy = copied(alloc, a)?;

@@ -27,6 +27,7 @@ pub(crate) fn reduce_window<M: AddMul>(
     requires pivots { (length q.old ≡ a.old.rows) ⊎ (a.old.cols ≤ length q.old) }
     requires one_row { spare.old.rows ≡ 1 }
     requires same_cols { spare.old.cols ≡ a.old.cols }
+    requires ready { M.ready ctx.old.engine }
     requires serves { Serves (M.limits ctx.old.engine) ctx.old.cutoff a.old.rows a.old.cols }
     ensures kept { a.new ≡ showing a.old (content a.new) }
     ensures spare { spare.new ≡ showing spare.old (content spare.new) }
@@ -35,6 +36,7 @@ pub(crate) fn reduce_window<M: AddMul>(
     ensures rank { result ≤ length q.new }
     ensures reduced { IsReducedAt (content a.new) (content a.old) (take result q.new) }
     ensures engine { M.limits ctx.new.engine ≡ M.limits ctx.old.engine }
+    ensures still_ready { M.ready ctx.new.engine }
     ensures cutoff { ctx.new.cutoff ≡ ctx.old.cutoff }
 {
     let _rows = a.rows();

@@ -19,10 +19,12 @@ pub fn solve_lower_left<M: AddMul>(t: &Win, b: &mut WinMut, e: &mut M, cutoff: u
     requires square { (shown t.now).rows ≡ (shown t.now).cols }
     requires fits { (shown t.now).rows ≡ b.old.rows }
     requires cutoff { 64 ≤ cutoff }
+    requires ready { M.ready e.old }
     requires reached { IsReached (M.limits e.old) b.old.rows b.old.rows b.old.cols }
     ensures solved { product (unit_lower (shown t.now)) (content b.new) ≡ content b.old }
     ensures stays { b.new ≡ showing b.old (content b.new) }
     ensures reach { M.limits e.new ≡ M.limits e.old }
+    ensures still_ready { M.ready e.new }
 {
     let rows = t.rows();
     if rows <= cutoff {
@@ -48,10 +50,12 @@ pub fn solve_upper_left<M: AddMul>(t: &Win, b: &mut WinMut, e: &mut M, cutoff: u
     requires square { (shown t.now).rows ≡ (shown t.now).cols }
     requires fits { (shown t.now).rows ≡ b.old.rows }
     requires cutoff { 64 ≤ cutoff }
+    requires ready { M.ready e.old }
     requires reached { IsReached (M.limits e.old) b.old.rows b.old.rows b.old.cols }
     ensures solved { product (unit_upper (shown t.now)) (content b.new) ≡ content b.old }
     ensures stays { b.new ≡ showing b.old (content b.new) }
     ensures reach { M.limits e.new ≡ M.limits e.old }
+    ensures still_ready { M.ready e.new }
 {
     let rows = t.rows();
     if rows <= cutoff {

@@ -19,10 +19,12 @@ pub fn solve_lower_right<M: AddMul>(t: &Win, b: &mut WinMut, e: &mut M, cutoff: 
     requires square { (shown t.now).rows ≡ (shown t.now).cols }
     requires fits { (shown t.now).cols ≡ b.old.cols }
     requires cutoff { 64 ≤ cutoff }
+    requires ready { M.ready e.old }
     requires reached { IsReached (M.limits e.old) b.old.rows b.old.cols b.old.cols }
     ensures solved { product (content b.new) (unit_lower (shown t.now)) ≡ content b.old }
     ensures stays { b.new ≡ showing b.old (content b.new) }
     ensures reach { M.limits e.new ≡ M.limits e.old }
+    ensures still_ready { M.ready e.new }
 {
     let cols = t.cols();
     if cols <= cutoff {
@@ -48,10 +50,12 @@ pub fn solve_upper_right<M: AddMul>(t: &Win, b: &mut WinMut, e: &mut M, cutoff: 
     requires square { (shown t.now).rows ≡ (shown t.now).cols }
     requires fits { (shown t.now).cols ≡ b.old.cols }
     requires cutoff { 64 ≤ cutoff }
+    requires ready { M.ready e.old }
     requires reached { IsReached (M.limits e.old) b.old.rows b.old.cols b.old.cols }
     ensures solved { product (content b.new) (unit_upper (shown t.now)) ≡ content b.old }
     ensures stays { b.new ≡ showing b.old (content b.new) }
     ensures reach { M.limits e.new ≡ M.limits e.old }
+    ensures still_ready { M.ready e.new }
 {
     let cols = t.cols();
     if cols <= cutoff {
