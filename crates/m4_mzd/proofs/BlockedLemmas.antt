@@ -100,7 +100,7 @@ above_again {m} {k} {n} {B} {U} {L} b u l top bottom =
     ∙ ap (λ x. get_or x j 0) (get_or-drop m B.entries i []))
 
 -- a sum of matrices over each other is the sums over each other
-added-above : {F : Field} {m k n : ℕ} {A B C D : Matrix} → HasShape F m n A → HasShape F k n B → HasShape F m n C → HasShape F k n D
+pub added-above : {F : Field} {m k n : ℕ} {A B C D : Matrix} → HasShape F m n A → HasShape F k n B → HasShape F m n C → HasShape F k n D
     → added (above A B) (above C D) ≡ above (added A C) (added B D)
 added-above {F} {m} {k} {n} {A} {B} {C} {D} a b c d =
     let ab = HasShape-above a b in
