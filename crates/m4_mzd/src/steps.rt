@@ -5,8 +5,8 @@ ghost use Rattle.std.specs.Prelude.{◌≡◌, ◌+◌, ◌<◌};
 use std::marker::Model;
 use std::sync::ledger::{Blank, Book, Ledger, Share};
 
-/// How many steps were taken by the calls that count, `WinMut::add_row` and `WinMut::add_rows`: one for each row that they
-/// added. It takes no bytes and its calls have no code. No other call changes it.
+/// How many steps were taken by the calls that count: `WinMut::add_row` and `WinMut::add_rows` count one for each row that they
+/// added, and other crates count their steps by `tick`. It takes no bytes and its calls have no code.
 ///
 /// A caller that wants no count makes one of its own: it writes its body as a function with a parameter `blank: Blank`, generic
 /// over `L: Ledger`, that begins with `Steps::<L>::new(blank)`, and calls it with `Brand` for `L` and `Blank::new(1)`. In
@@ -43,7 +43,7 @@ impl<L: Ledger> Steps<L> {
 
     /// Counts one step.
     #[inline]
-    pub(crate) fn tick(&mut self)
+    pub fn tick(&mut self)
         ensures { self.new ≡ self.old + 1 }
     {
         self.book.add(&mut self.share, 1);

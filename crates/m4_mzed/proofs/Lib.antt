@@ -2,9 +2,12 @@ pub mod AddedRows
 pub mod BitLemmas
 pub mod ElementLemmas
 pub mod EntryLemmas
+pub mod EqualLemmas
 pub mod FactorLemmas
 pub mod IndexLemmas
 pub mod MultipleLemmas
+pub mod NarrowLemmas
+pub mod PackedSums
 pub mod PairLemmas
 pub mod PartLemmas
 pub mod PartRows

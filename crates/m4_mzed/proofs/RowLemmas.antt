@@ -11,7 +11,7 @@ unfolding unpacked
 length-unpacked w zero bits = refl
 length-unpacked w (suc n) bits = ap suc (length-unpacked w n (drop w bits))
 
-times_suc : (c w : ℕ) → suc c * w ≡ w + c * w
+pub times_suc : (c w : ℕ) → suc c * w ≡ w + c * w
 times_suc c w = omega arith
 
 -- the elements of the first bits

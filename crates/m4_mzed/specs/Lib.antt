@@ -1,5 +1,6 @@
 pub mod ESeen
 pub mod EWindow
+pub mod Equal
 pub mod Owned
 pub mod Packed
 pub mod PackedIn

@@ -1,6 +1,7 @@
 -- Rows of bits as rows of elements.
-use Rattle.std.specs.Prelude.{◌≡◌, ℕ, zero, suc, ◌+◌, ◌*◌, List, [], ◌∷◌, length, map, take, drop}
-use Rattle.std.specs.List.{All}
+use Rattle.std.specs.Prelude.{◌≡◌, ℕ, zero, suc, ◌+◌, ◌*◌, List, [], ◌∷◌, ◌++◌, length, map, take, drop}
+use Rattle.std.specs.List.{All, range_with_len}
+use Rattle.std.specs.Int.{bit_at}
 use Rattle.m4_model.specs.Field.{Field, IsElement}
 use Rattle.m4_model.specs.Field.{IsCarried}
 use Rattle.m4_mzd.specs.Window.{Window}
@@ -16,6 +17,11 @@ number_of (b ∷ bs) = number_of bs * 2 + b
 unfoldable pub unpacked : ℕ → ℕ → List ℕ → List ℕ
 unpacked w zero bits = []
 unpacked w (suc n) bits = number_of (take w bits) ∷ unpacked w n (drop w bits)
+
+-- The bits of the elements, so many of each, the lowest first.
+unfoldable pub packed : ℕ → List ℕ → List ℕ
+packed w [] = []
+packed w (x ∷ xs) = map (bit_at x) (range_with_len 0 w) ++ packed w xs
 
 -- The window of elements over a window of bits.
 abbrev pub elements : Field → ℕ → Window → EWindow

@@ -13,7 +13,9 @@ use m4_mzd::Mzd;
 use std::alloc::Global;
 use std::marker::Model;
 
+mod equal;
 mod rects;
+mod show;
 mod windows;
 
 /// A matrix over GF(2) or GF(2^e) of at most 2^24 rows, each of at most 2^24 bits, which owns its words.

@@ -1,4 +1,4 @@
-//! Words and rows multiplied over fields of every width, and windows taken out and put back.
+//! Words and rows multiplied over fields of every width, windows taken out and put back, and matrices compared and told.
 
 ghost use Rattle.std.specs.Prelude.{◌≡◌, ◌^◌, ◌<◌, ◌≤◌, ◌*◌, ◌%◌, ◌==◌, ◌||◌, IfOk, IsTrue};
 ghost use Rattle.m4_model.specs.Field.{width};
@@ -60,7 +60,7 @@ fn mix_row(m: &mut Mzed, r: u32, seed: u64)
     }
 }
 
-// Whether row 1 is what it was with `x` times row 0 added to it from column `c` on.
+// Whether the second row is what it was with `x` times the first added to it from column `c` on.
 fn is_sum(before: &Mzed, after: &Mzed, x: u32, c: u32) -> bool
     requires rows { 2 ≤ before.now.rows }
     requires same_rows { after.now.rows ≡ before.now.rows }
@@ -118,6 +118,20 @@ fn rows_are_added_over_every_width(rt: HostRuntime) -> Result<(), Fail> {
         if let Ok(field) = Field::new(case.0, case.1) {
             assert!(rt; rows_are_added(rt.alloc(), field)?);
         }
+    }
+    Ok(())
+}
+
+#[test]
+fn matrices_are_compared_and_told(rt: HostRuntime) -> Result<(), Fail> {
+    if let Ok(field) = Field::new(9, 0x203) {
+        let mut m = Mzed::zeros(rt.alloc(), field, 2, 2)?;
+        let other = m.copy(rt.alloc())?;
+        assert!(rt; m == other);
+        m.put(0, 1, 0x1ca);
+        assert!(rt; m != other);
+        let text = format!(in rt.alloc(); "{m:?}")?;
+        assert_eq!(rt; text.as_str(), "[0001ca, 000000]");
     }
     Ok(())
 }

@@ -75,7 +75,7 @@ fn matrices_of_one_entry_are_multiplied(rt: HostRuntime) -> Result<(), Fail> {
     Ok(())
 }
 
-// Adds the product of an entry 1 and the row 2 3 to columns 8 and 9 of a row of zeros.
+// Adds the product of an entry 1 and a row of the entries 2 and 3 to columns 8 and 9 of a row of zeros.
 fn added_inside(alloc: Global, field: Field) -> Result<Mzed, NoMemory>
     requires { (the_field field).degree ≡ 8 }
     ensures { IfOk result (λ m. (m.rows ≡ 1) × (m.cols ≡ 10)) }

@@ -1,9 +1,12 @@
 //! The parts of a window, and how they are joined to it again.
 
 ghost use Rattle.std.specs.Prelude.{◌≡◌, ◌+◌, ◌-◌, ◌*◌, ◌/◌, ◌%◌, ◌≤◌, ◌++◌, [], take, drop, map};
+ghost use Rattle.std.specs.List.{All};
 ghost use Rattle.std.specs.Simd.Lanes.{zip2};
 ghost use Rattle.m4_model.specs.Field.{width};
+ghost use Rattle.m4_model.specs.Text.{words_per_row};
 ghost use Rattle.m4_mzed.specs.EWindow.{IsBelow, IsBeside, AreQuarters};
+ghost use Rattle.m4_mzed.specs.Packed.{packed, unpacked, IsPackedRow};
 
 use super::EWinMut;
 
@@ -134,5 +137,50 @@ impl EWinMut {
     {
         let top = self.join_cols(top_right);
         top.join_rows(bottom_left.join_cols(bottom_right))
+    }
+
+    /// The first `cols` columns, as long as they take as many words as all of them do. The bits of the others are past the
+    /// window's end, until it is widened again. A window of any other width is split at whole words first.
+    #[inline]
+    pub fn narrow(self, cols: u32) -> EWinMut
+        requires within { cols ≤ self.cols }
+        requires same_words { words_per_row (cols * width self.field) ≡ words_per_row (self.cols * width self.field) }
+        ensures { result ≡ record self { cols = cols; entries = map (take cols) self.entries; past = zip2 (λ row more. packed (width self.field) (drop cols row) ++ more) self.entries self.past } }
+    {
+        let place = self.first_bit(cols);
+        let _rows = self.bits.rows();
+        let EWinMut {
+            field,
+            cols: _,
+            bits,
+        } = self;
+        EWinMut {
+            field,
+            cols,
+            bits: bits.narrow(place),
+        }
+    }
+
+    /// The window with more columns, whose bits were past its end, as long as it takes no more words.
+    #[inline]
+    pub fn widen(self, cols: u32) -> EWinMut
+        requires more { self.cols ≤ cols }
+        requires same_words { words_per_row (cols * width self.field) ≡ words_per_row (self.cols * width self.field) }
+        requires elements { All (λ more. IsPackedRow self.field (cols - self.cols) (take ((cols - self.cols) * width self.field) more)) self.past }
+        ensures { result ≡ record self { cols = cols; entries = zip2 (λ row more. row ++ unpacked (width self.field) (cols - self.cols) more) self.entries self.past; past = map (drop ((cols - self.cols) * width self.field)) self.past } }
+    {
+        let _rows = self.bits.rows();
+        let EWinMut {
+            field,
+            cols: fewer,
+            bits,
+        } = self;
+        let width = field.width();
+        let place = fewer * width + (cols - fewer) * width;
+        EWinMut {
+            field,
+            cols,
+            bits: bits.widen(place),
+        }
     }
 }
