@@ -1,7 +1,7 @@
-pub mod Bits
+pub mod RowSteps
 pub mod Taken
 pub mod Triangles
-pub mod RowSteps
 pub mod Windows
+pub mod Quarters
 pub mod Halves
 pub mod Solves

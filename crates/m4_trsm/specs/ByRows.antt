@@ -1,6 +1,6 @@
 -- Solves row by row.
 use Rattle.std.specs.Prelude.{◌≡◌, ℕ, ◌-◌, ◌<◌, Bool, true, false, List, length, slice_index, if◌then◌else◌}
-use Rattle.m4_model.specs.Field.{gf2, sum_below, mul}
+use Rattle.m4_model.specs.Field.{sum_below, mul}
 use Rattle.m4_model.specs.Matrix.{Matrix, at}
 use Rattle.m4_trsm.specs.Triangles.{unit_triangle}
 use Rattle.m4_trsm.specs.declared.side.Side.{Side}
@@ -23,4 +23,4 @@ rises_on_right Upper = true
 -- The row x is as long as the row b, and x times the triangle is b.
 pub record SolvesRow (side : Side) (T : Matrix) (b x : List ℕ) : Type 0 where
   pub long : length x ≡ length b
-  pub solves : (k : ℕ) → k < length b → sum_below T.rows (λ s. mul gf2 (slice_index x s) (at (unit_triangle side T) s k)) ≡ slice_index b k
+  pub solves : (k : ℕ) → k < length b → sum_below T.rows (λ s. mul T.field (slice_index x s) (at (unit_triangle side T) s k)) ≡ slice_index b k

@@ -2,21 +2,22 @@
 
 ghost use Rattle.std.specs.Prelude.{◌≡◌, ◌<◌};
 ghost use Rattle.m4_model.specs.Matrix.{product, row, with_row};
-ghost use Rattle.m4_mzd.specs.Window.{content, showing};
-ghost use Rattle.m4_mzd.specs.Seen.{shown};
+ghost use Rattle.m4_mzed.specs.EWindow.{content, showing};
+ghost use Rattle.m4_mzed.specs.ESeen.{e_shown};
 ghost use Rattle.m4_trsm.specs.Triangles.{unit_triangle};
 ghost use Rattle.m4_trsm.specs.ByRows.{place, rises_on_left, rises_on_right, SolvesRow};
 
 use crate::rows_of_left::take_row_out;
 use crate::rows_of_right::take_entry_out;
 use crate::side::Side;
-use m4_mzd::{Win, WinMut};
+use m4_mzed::{EWin, EWinMut};
 
 /// `b` becomes the X with T X = b.
-pub fn solve_left(side: Side, t: &Win, b: &mut WinMut)
-    requires square { (shown t.now).rows ≡ (shown t.now).cols }
-    requires fits { (shown t.now).rows ≡ b.old.rows }
-    ensures solved { product (unit_triangle side (shown t.now)) (content b.new) ≡ content b.old }
+pub fn solve_left(side: Side, t: &EWin, b: &mut EWinMut)
+    requires square { (e_shown t.now).rows ≡ (e_shown t.now).cols }
+    requires fits { (e_shown t.now).rows ≡ b.old.rows }
+    requires field { (e_shown t.now).field ≡ b.old.field }
+    ensures solved { product (unit_triangle side (e_shown t.now)) (content b.new) ≡ content b.old }
     ensures stays { b.new ≡ showing b.old (content b.new) }
 {
     let _rows_of_t = t.rows();
@@ -28,10 +29,11 @@ pub fn solve_left(side: Side, t: &Win, b: &mut WinMut)
 }
 
 /// `b` becomes the X with X T = b.
-pub fn solve_right(side: Side, t: &Win, b: &mut WinMut)
-    requires square { (shown t.now).rows ≡ (shown t.now).cols }
-    requires fits { (shown t.now).cols ≡ b.old.cols }
-    ensures solved { product (content b.new) (unit_triangle side (shown t.now)) ≡ content b.old }
+pub fn solve_right(side: Side, t: &EWin, b: &mut EWinMut)
+    requires square { (e_shown t.now).rows ≡ (e_shown t.now).cols }
+    requires fits { (e_shown t.now).cols ≡ b.old.cols }
+    requires field { (e_shown t.now).field ≡ b.old.field }
+    ensures solved { product (content b.new) (unit_triangle side (e_shown t.now)) ≡ content b.old }
     ensures stays { b.new ≡ showing b.old (content b.new) }
 {
     let _rows_of_t = t.rows();
@@ -43,11 +45,12 @@ pub fn solve_right(side: Side, t: &Win, b: &mut WinMut)
 }
 
 /// Row `r` becomes the x with x T = that row.
-fn solve_row(side: Side, t: &Win, b: &mut WinMut, r: u32)
-    requires square { (shown t.now).rows ≡ (shown t.now).cols }
-    requires fits { (shown t.now).cols ≡ b.old.cols }
+fn solve_row(side: Side, t: &EWin, b: &mut EWinMut, r: u32)
+    requires square { (e_shown t.now).rows ≡ (e_shown t.now).cols }
+    requires fits { (e_shown t.now).cols ≡ b.old.cols }
     requires in_rows { r < b.old.rows }
-    ensures solved { SolvesRow side (shown t.now) (row (content b.old) r) (row (content b.new) r) }
+    requires field { (e_shown t.now).field ≡ b.old.field }
+    ensures solved { SolvesRow side (e_shown t.now) (row (content b.old) r) (row (content b.new) r) }
     ensures stays { b.new ≡ showing b.old (with_row (content b.old) r (row (content b.new) r)) }
 {
     let _rows_of_t = t.rows();

@@ -1,11 +1,12 @@
 //! The parts of a triangle.
 
 ghost use Rattle.std.specs.Prelude.{◌≡◌, ◌+◌, ◌*◌, ◌%◌, ◌<◌, ◌≤◌};
+ghost use Rattle.m4_model.specs.Field.{width};
 ghost use Rattle.m4_model.specs.Shapes.{cut};
-ghost use Rattle.m4_mzd.specs.Seen.{shown};
+ghost use Rattle.m4_mzed.specs.ESeen.{e_shown};
 
 use m4_bits::words_for;
-use m4_mzd::Win;
+use m4_mzed::EWin;
 
 /// Where a triangle of so many rows, more than 64, is cut: at half of its words, rounded down.
 pub fn half(rows: u32) -> u32
@@ -21,14 +22,14 @@ pub fn half(rows: u32) -> u32
 
 /// The parts of a square that is cut at row and column `k`: its first rows and columns, what is right of them, what is
 /// below them, and its last rows and columns.
-pub fn quarters<'a>(t: Win<'a>, k: u32) -> (Win<'a>, Win<'a>, Win<'a>, Win<'a>)
-    requires square { (shown t).rows ≡ (shown t).cols }
-    requires within { k ≤ (shown t).rows }
-    requires whole_words { k % 64 ≡ 0 }
-    ensures first { shown result.0 ≡ cut (shown t.entry) 0 0 k k }
-    ensures right { shown result.1 ≡ cut (shown t.entry) 0 k k (shown t.entry).cols }
-    ensures below { shown result.2 ≡ cut (shown t.entry) k 0 (shown t.entry).rows k }
-    ensures last { shown result.3 ≡ cut (shown t.entry) k k (shown t.entry).rows (shown t.entry).cols }
+pub fn quarters<'a>(t: EWin<'a>, k: u32) -> (EWin<'a>, EWin<'a>, EWin<'a>, EWin<'a>)
+    requires square { (e_shown t).rows ≡ (e_shown t).cols }
+    requires within { k ≤ (e_shown t).rows }
+    requires whole_words { k * width (e_shown t).field % 64 ≡ 0 }
+    ensures first { e_shown result.0 ≡ cut (e_shown t.entry) 0 0 k k }
+    ensures right { e_shown result.1 ≡ cut (e_shown t.entry) 0 k k (e_shown t.entry).cols }
+    ensures below { e_shown result.2 ≡ cut (e_shown t.entry) k 0 (e_shown t.entry).rows k }
+    ensures last { e_shown result.3 ≡ cut (e_shown t.entry) k k (e_shown t.entry).rows (e_shown t.entry).cols }
 {
     let _rows = t.rows();
     let (top, bottom) = t.split_rows(k);

@@ -1,6 +1,6 @@
 use Rattle.std.proofs.Common.{refl, sym, ap, ◌∙◌, arith}
-use Rattle.m4_mzd.specs.Seen.{shown}
-use Rattle.m4_mzd.proofs.PairLemmas.{upper, lower}
+use Rattle.m4_mzed.specs.ESeen.{e_shown}
+use Rattle.m4_trsm.proofs.Windows.{upper, lower}
 use Rattle.m4_trsm.proofs.Solves.{written_once, written_twice, solved_lower_left}
 use Rattle.m4_trsm.proofs.left.+solve_lower_left.Goals as goal
 
@@ -8,16 +8,16 @@ pub returns-clause-solved : goal.returns-clause-solved
 returns-clause-solved g t c =
     let w = c.args.b.now in
     let k = c.half-cut.result in
-    solved_lower_left (shown c.args.t.now) (shown c.quarters.result.0) (shown c.quarters.result.3) w.rows k
+    solved_lower_left w.field c.rows-rows-2.ensures.matrix.over_field (e_shown c.args.t.now) (e_shown c.quarters.result.0) (e_shown c.quarters.result.3) w.rows k
     (record {
       within = omega (arith, c.half-cut.ensures.less, c.rows-rows.ensures.rows, c.requires.fits);
-      shape = record { is_matrix = c.rows-rows.ensures.matrix; over = refl; rows = c.requires.fits; cols = sym c.requires.square ∙ c.requires.fits };
+      shape = record { is_matrix = c.rows-rows.ensures.matrix; over = c.requires.field; rows = c.requires.fits; cols = sym c.requires.square ∙ c.requires.fits };
       first = c.quarters.ensures.first;
       last = c.quarters.ensures.last;
     })
-    w c.split_rows-top.result.0 c.split_rows-top.result.1 c.solve_lower_left.new.b c.solve_lower_left-2.new.b c.put_back.new.self refl
+    w c.split_rows-top.result.0 c.split_rows-top.result.1 c.solve_lower_left.new.b c.solve_lower_left-2.new.b c.put_back.new.self refl refl
     (c.split_rows-top.ensures.above ∙ ap (λ u. upper u k) c.take.ensures.whole) (c.split_rows-top.ensures.below ∙ ap (λ u. lower u k) c.take.ensures.whole)
-    (written_once c.rows-above.ensures.shape c.rows-above-2.ensures.shape c.solve_lower_left.ensures.stays)
-    (written_twice c.rows-below.ensures.shape c.rows-below-2.ensures.shape c.addmul.ensures.sum c.solve_lower_left-2.ensures.stays)
+    (written_once c.rows-above.ensures.matrix c.rows-above-2.ensures.matrix c.solve_lower_left.ensures.stays)
+    (written_twice c.rows-below.ensures.matrix c.rows-below-2.ensures.matrix c.addmul.ensures.sum c.solve_lower_left-2.ensures.stays)
     (c.put_back.ensures ∙ c.join_rows.ensures)
-    c.addmul.new.c (shown c.quarters.result.2) (shown c.see.result) c.quarters.ensures.below c.see.ensures c.solve_lower_left.ensures.solved c.addmul.ensures.sum c.solve_lower_left-2.ensures.solved
+    c.addmul.new.c (e_shown c.quarters.result.2) (e_shown c.see.result) c.quarters.ensures.below c.see.ensures c.solve_lower_left.ensures.solved c.addmul.ensures.sum c.solve_lower_left-2.ensures.solved

@@ -1,17 +1,11 @@
 use Rattle.std.proofs.Common.{◌-◌, ◌≤◌, take, drop, map, ap, ◌∙◌, arith}
 use Rattle.m4_model.specs.Matrix.{Matrix}
-use Rattle.m4_mzd.specs.Window.{IsWindow}
-use Rattle.m4_mzd.specs.Seen.{shown}
-use Rattle.m4_mzd.proofs.QuarterLemmas.{shows_top_left, shows_top_right, shows_bottom_left, shows_bottom_right}
-use Rattle.m4_trsm.proofs.Windows.{as_window, IsWindow-as_window}
+use Rattle.m4_mzed.specs.ESeen.{e_shown}
+use Rattle.m4_trsm.proofs.Quarters.{shows_top_left, shows_top_right, shows_bottom_left, shows_bottom_right}
 use Rattle.m4_trsm.proofs.parts.quarters.Goals as goal
 use Rattle.m4_trsm.proofs.parts.quarters.Goals.{After-rows-rows}
 
--- a window that stands for the square
-shape : (c : After-rows-rows) → IsWindow (as_window (shown c.args.t))
-shape c = IsWindow-as_window c.args.t c.rows-rows.ensures.matrix c.rows-rows.ensures.few_rows c.rows-rows.ensures.few_cols
-
-in_cols : (c : After-rows-rows) → c.args.k ≤ (shown c.args.t).cols
+in_cols : (c : After-rows-rows) → c.args.k ≤ (e_shown c.args.t).cols
 in_cols c = omega (arith, c.requires.square, c.requires.within)
 
 pub returns-clause-first : goal.returns-clause-first
@@ -20,7 +14,7 @@ returns-clause-first c =
     let start = (goal.at.returns-clause-first c).After-rows-rows in
     c.split_cols.ensures.left
     ∙ ap (λ (A : Matrix). record A { cols = k; entries = map (take k) A.entries }) c.split_rows.ensures.above
-    ∙ shows_top_left (as_window (shown c.args.t)) (shape start) k k c.requires.within (in_cols start)
+    ∙ shows_top_left (e_shown c.args.t) start.rows-rows.ensures.matrix k k c.requires.within (in_cols start)
 
 pub returns-clause-right : goal.returns-clause-right
 returns-clause-right c =
@@ -28,7 +22,7 @@ returns-clause-right c =
     let start = (goal.at.returns-clause-right c).After-rows-rows in
     c.split_cols.ensures.right
     ∙ ap (λ (A : Matrix). record A { cols = A.cols - k; entries = map (drop k) A.entries }) c.split_rows.ensures.above
-    ∙ shows_top_right (as_window (shown c.args.t)) (shape start) k k c.requires.within (in_cols start)
+    ∙ shows_top_right (e_shown c.args.t) start.rows-rows.ensures.matrix k k c.requires.within (in_cols start)
 
 pub returns-clause-below : goal.returns-clause-below
 returns-clause-below c =
@@ -36,7 +30,7 @@ returns-clause-below c =
     let start = (goal.at.returns-clause-below c).After-rows-rows in
     c.split_cols-2.ensures.left
     ∙ ap (λ (A : Matrix). record A { cols = k; entries = map (take k) A.entries }) c.split_rows.ensures.below
-    ∙ shows_bottom_left (as_window (shown c.args.t)) (shape start) k k c.requires.within (in_cols start)
+    ∙ shows_bottom_left (e_shown c.args.t) start.rows-rows.ensures.matrix k k c.requires.within (in_cols start)
 
 pub returns-clause-last : goal.returns-clause-last
 returns-clause-last c =
@@ -44,4 +38,4 @@ returns-clause-last c =
     let start = (goal.at.returns-clause-last c).After-rows-rows in
     c.split_cols-2.ensures.right
     ∙ ap (λ (A : Matrix). record A { cols = A.cols - k; entries = map (drop k) A.entries }) c.split_rows.ensures.below
-    ∙ shows_bottom_right (as_window (shown c.args.t)) (shape start) k k c.requires.within (in_cols start)
+    ∙ shows_bottom_right (e_shown c.args.t) start.rows-rows.ensures.matrix k k c.requires.within (in_cols start)

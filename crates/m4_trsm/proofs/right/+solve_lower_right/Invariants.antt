@@ -1,5 +1,5 @@
-use Rattle.m4_mzd.specs.Seen.{shown}
+use Rattle.m4_mzed.specs.ESeen.{e_shown}
 use Rattle.m4_trsm.proofs.right.+solve_lower_right.Given as goal
 
 abbrev pub decreases-solve_lower_right : goal.decreases-solve_lower_right
-decreases-solve_lower_right g l = (shown l.t.now).cols
+decreases-solve_lower_right g l = (e_shown l.t.now).cols
