@@ -1,0 +1,5 @@
+pub mod ProductLemmas
+pub mod QuarterLemmas
+pub mod RoomLemmas
+pub mod StepLemmas
+pub mod SumLemmas

@@ -1,0 +1,4 @@
+pub mod Cuts
+pub mod Engine
+pub mod Level
+pub mod Levels
