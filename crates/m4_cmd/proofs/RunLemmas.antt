@@ -7,7 +7,7 @@ use Rattle.m4_model.specs.declared.status.Status.{Status}
 use Rattle.m4_model.specs.declared.status.Status.TheVariants.{Done, No, Words, Text, Shape, Limit, Read, Write, Memory}
 use Rattle.m4_io.specs.Outside.{Rose, AppendsFront}
 use Rattle.m4_cmd.specs.Run.{Change, IsAsked, IsAnswered, IsJudged, IsRefused, LacksOperand, Answers, AnswersInPart, Reports}
-use Rattle.m4_cmd.specs.Steps.{NoReadFailed, NothingWritten, IsJobAnswer, IsDone, JobGives, AskedGives, RefusesWord, WorkGives}
+use Rattle.m4_cmd.specs.Steps.{NoReadFailed, NothingWritten, IsJobAnswer, IsDone, JobGives, WorkGives}
 
 -- known bytes that stay grow by nothing
 appends_nothing : (old new : Option (List ℕ)) → new ≡ old → Appends old new []

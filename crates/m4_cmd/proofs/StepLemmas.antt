@@ -1,11 +1,11 @@
 -- From each step of a run to the next: what a file's bytes give of the file, an operand of the operands, and these of
 -- the job.
-use Rattle.std.proofs.Common.{◌≡◌, ℕ, ◌+◌, ◌^◌, ◌<◌, ◌≤◌, List, [], ◌∷◌, ◌++◌, length, map, get_or, take, drop, Option, Some, refl, sym, ◌∙◌, subst, arith, inl, inr, ap, append-nil}
+use Rattle.std.proofs.Common.{◌≡◌, ℕ, ◌+◌, ◌^◌, ◌<◌, List, [], ◌∷◌, ◌++◌, length, map, get_or, take, drop, Option, Some, refl, sym, ◌∙◌, subst, arith, inl, inr, ap, append-nil}
 use Rattle.std.specs.List.{All}
 use Rattle.std.proofs.lemmas.List.{drop_more, take_more, take-append-drop, length-take-le, length-map, get_or-map}
 use Rattle.std.proofs.lemmas.List.Elements.{All-append, All-cons, All-nil}
 use Rattle.m4_model.specs.Matrix.{Matrix}
-use Rattle.m4_model.specs.Text.{Fault, BadAt, PastLimit, IsWithinLimits}
+use Rattle.m4_model.specs.Text.{Fault}
 use Rattle.m4_model.specs.Texts.{ReadsAs, RefusalAs}
 use Rattle.m4_model.specs.Words.{Job, form_of_files, form_of_answer}
 use Rattle.m4_model.specs.Outcome.{Stock, bytes_of, Accepted, Answer, status_of}
@@ -15,8 +15,8 @@ use Rattle.m4_io.specs.Outside.{Rose}
 use Rattle.m4_io.specs.Reading.{IsFileOrLong}
 use Rattle.m4_text.specs.Refused.{IsRefusalIn}
 use Rattle.m4_text.proofs.Readers.{reads_short}
-use Rattle.m4_cmd.specs.Run.{Output, Change}
-use Rattle.m4_cmd.specs.Steps.{IsReadAs, IsRefusedWith, OperandFails, AreReadAs, OperandsFail, operand_status, AnswerFails, answer_status, NoReadFailed, NothingWritten, Wrote, OutputFails, output_status, IsJobAnswer, JobGives}
+use Rattle.m4_cmd.specs.Run.{Change}
+use Rattle.m4_cmd.specs.Steps.{IsOperand, IsReadAs, IsRefusedWith, OperandFails, AreReadAs, OperandsFail, operand_status, AnswerFails, answer_status, NoReadFailed, NothingWritten, Wrote, OutputFails, output_status, IsJobAnswer, JobGives}
 use Rattle.m4_cmd.specs.declared.operands.OperandFault.{OperandFault}
 use Rattle.m4_cmd.specs.declared.operands.OperandFault.TheVariants as operand_faults
 use Rattle.m4_cmd.specs.declared.answer.AnswerFault.{AnswerFault}
@@ -44,11 +44,11 @@ front_refuses told form name bytes fault file refused = λ files tells.
       | inr long ↦ (found.0, found.1, subst P (sym long.1.1) (refused long.1.0 (inr long.0)))
     ]
 
--- what is read has no more columns than the limits let it have
-pub reads_few_cols : (form : Form) (bytes : List ℕ) (M : Matrix) → ReadsAs form bytes M → M.cols ≤ 65536
-reads_few_cols Headed bytes M reads = reads.accepted.limits.cols
-reads_few_cols Bare bytes M reads = reads.accepted.limits.cols
-reads_few_cols Jcf bytes M reads = reads.accepted.limits.cols
+-- what is read is an operand
+pub reads_operand : (form : Form) (bytes : List ℕ) (M : Matrix) → ReadsAs form bytes M → IsOperand M
+reads_operand Headed bytes M reads = record { over_gf2 = reads.accepted.over_gf2; few_cols = reads.accepted.limits.cols }
+reads_operand Bare bytes M reads = record { over_gf2 = reads.accepted.over_gf2; few_cols = reads.accepted.limits.cols }
+reads_operand Jcf bytes M reads = record { over_gf2 = reads.accepted.over_gf2; few_cols = reads.accepted.limits.cols }
 
 -- one more file that is accepted, behind those that are
 accepted_more : (files : Stock) (form : Form) (names : List (List ℕ)) (Ms : List Matrix) (name : List ℕ) (M : Matrix) → Accepted files form names Ms
@@ -116,11 +116,9 @@ module _ {X : Type 0} (name_of : X → List ℕ) (files_named : List X) (i : ℕ
       (operand_fails told form (take i names) name (drop (i + 1) names) Ms (i + 1) before mid now fault read (ap (λ n. n + 1) (length-take-le i names (omega (arith, inside)))) same
       (subst P same_stock fails))
 
--- one more matrix of few columns, behind those that are
-pub few_cols_more : (Ms all : List Matrix) (M : Matrix) → all ≡ Ms ++ M ∷ [] → All (λ N. N.cols ≤ 65536) Ms → M.cols ≤ 65536 → All (λ N. N.cols ≤ 65536) all
-few_cols_more Ms all M pushed few here =
-    let P : Matrix → Type 0 = λ N. N.cols ≤ 65536 in
-    subst (All P) (sym pushed) (All-append P Ms (M ∷ []) few (All-cons P M [] here (All-nil P)))
+-- one more operand, behind those that are
+pub operands_more : (Ms all : List Matrix) (M : Matrix) → all ≡ Ms ++ M ∷ [] → All IsOperand Ms → IsOperand M → All IsOperand all
+operands_more Ms all M pushed are is = subst (All IsOperand) (sym pushed) (All-append IsOperand Ms (M ∷ []) are (All-cons IsOperand M [] is (All-nil IsOperand)))
 
 -- how a job ends, whatever stands outside
 module _ (told : Option Stock) (asked : Job) (change : Change) where

@@ -1,7 +1,8 @@
 -- What the steps of a run give: the operands, the command's answer, its writing, and the job; and why a step fails, by cases on
 -- its faults.
-use Rattle.std.specs.Prelude.{◌≡◌, ℕ, ◌⊎◌, List, Option, Some, Ok, Err}
+use Rattle.std.specs.Prelude.{◌≡◌, ℕ, ◌≤◌, ◌⊎◌, List, Option, Some, Ok, Err}
 use Rattle.std.specs.Io.KnownBytes.{Appends}
+use Rattle.m4_model.specs.Field.{gf2}
 use Rattle.m4_model.specs.Matrix.{Matrix}
 use Rattle.m4_model.specs.Text.{Fault, BadAt, PastLimit}
 use Rattle.m4_model.specs.Texts.{ReadsAs, RefusalAs}
@@ -19,6 +20,11 @@ use Rattle.m4_cmd.specs.declared.answer.AnswerFault.{AnswerFault}
 use Rattle.m4_cmd.specs.declared.answer.AnswerFault.TheVariants as answer_faults
 use Rattle.m4_cmd.specs.declared.output.OutputFault.{OutputFault}
 use Rattle.m4_cmd.specs.declared.output.OutputFault.TheVariants as output_faults
+
+-- What is known of a matrix that was read: it is over GF(2), and has no more columns than the limits let it have.
+pub record IsOperand (M : Matrix) : Type 0 where
+  pub over_gf2 : M.field ≡ gf2
+  pub few_cols : M.cols ≤ 65536
 
 -- Where the files are told, the one of this name is there, and is read in this form as M.
 abbrev pub IsReadAs : Option Stock → Form → List ℕ → Matrix → Type 0

@@ -1,25 +1,22 @@
 //! What a command answers, or why it has no answer.
 
-ghost use Rattle.std.specs.Prelude.{◌≡◌, ◌≤◌, IfOk, IfErr, All};
+ghost use Rattle.std.specs.Prelude.{◌≡◌, IfOk, IfErr, All};
 ghost use Rattle.m4_model.specs.Outcome.{HasAnswer, status_of};
-ghost use Rattle.m4_cmd.specs.Answer.{answer_told};
-ghost use Rattle.m4_cmd.specs.Steps.{AnswerFails, answer_status};
+ghost use Rattle.m4_cmd.specs.Answer.{answer_told, IsOverBits};
+ghost use Rattle.m4_cmd.specs.Steps.{AnswerFails, IsOperand, answer_status};
 
 use crate::bounds::in_known_bounds;
 use crate::compute::compute;
-use crate::factors::{PleFactors, PluqFactors};
 use crate::fits::fits;
-use crate::method::Method;
+use m4_dense::{How, Mzed, PleFactors, PluqFactors};
 use m4_model::{Command, NoMemory, Status};
-use m4_mzd::Mzd;
-use m4_text::MOST_COLS;
 use std::alloc::Global;
 
 /// What a command answers.
 #[derive(Drop)]
 pub(crate) enum Answer {
     /// One matrix.
-    Matrix(Mzd),
+    Matrix(Mzed),
     /// A rank.
     Rank(u32),
     /// A PLE.
@@ -83,11 +80,12 @@ impl From<NoMemory> for AnswerFault {
 pub(crate) fn answer_of(
     alloc: Global,
     command: Command,
-    method: Method,
-    operands: &mut [Mzd],
+    how: How,
+    operands: &mut [Mzed],
 ) -> Result<Answer, AnswerFault>
-    requires few_cols { All (λ M. M.cols ≤ MOST_COLS) operands.old }
+    requires operands { All IsOperand operands.old }
     ensures good { IfOk result (λ answer. HasAnswer command operands.old (answer_told answer)) }
+    ensures over_gf2 { IfOk result IsOverBits }
     ensures fails { IfErr result (AnswerFails command operands.old) }
 {
     if !fits(command, operands) {
@@ -96,5 +94,5 @@ pub(crate) fn answer_of(
     if !in_known_bounds(command, operands) {
         return Err(AnswerFault::Limit);
     }
-    compute(alloc, command, method, operands)
+    compute(alloc, command, how, operands)
 }

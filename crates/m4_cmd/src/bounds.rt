@@ -1,27 +1,33 @@
 //! Whether the answer's shape is within the limits on results.
 
-ghost use Rattle.std.specs.Prelude.{◌↔◌, ◌≤◌, IsTrue, All};
+ghost use Rattle.std.specs.Prelude.{◌↔◌, ◌≤◌, IsTrue};
+ghost use Rattle.m4_model.specs.Field.{width};
 ghost use Rattle.m4_model.specs.Outcome.{InKnownBounds};
+ghost use Rattle.m4_model.specs.Text.{IsWithinLimits};
 
+use m4_dense::Mzed;
 use m4_model::Command;
-use m4_mzd::Mzd;
 use m4_text::within_limits;
-
-/// How many bits an entry over GF(2) takes.
-pub(crate) const BITS: u32 = 1;
 
 /// Whether the shape of the command's answer is within the limits, where it is known from the operands' shapes. That of a
 /// kernel is known from the rank, and is looked at by itself.
-pub(crate) fn in_known_bounds(command: Command, operands: &[Mzd]) -> bool
+pub(crate) fn in_known_bounds(command: Command, operands: &[Mzed]) -> bool
     ensures { IsTrue result ↔ InKnownBounds command operands.now }
 {
     match (command, operands) {
-        (Command::Mul, [a, b]) => within_limits(BITS, a.rows(), b.cols()),
-        (Command::Transpose, [a]) => within_limits(BITS, a.cols(), a.rows()),
-        (Command::Stack, [a, b]) => within_limits(BITS, a.rows() + b.rows(), a.cols()),
-        (Command::Augment, [a, b]) => within_limits(BITS, a.rows(), a.cols() + b.cols()),
-        (Command::Solve, [a, b]) => within_limits(BITS, a.cols(), b.cols()),
-        (Command::Ple | Command::Pluq, [a]) => within_limits(BITS, a.rows(), a.rows()),
+        (Command::Mul, [a, b]) => is_within_limits(a, a.rows(), b.cols()),
+        (Command::Transpose, [a]) => is_within_limits(a, a.cols(), a.rows()),
+        (Command::Stack, [a, b]) => is_within_limits(a, a.rows() + b.rows(), a.cols()),
+        (Command::Augment, [a, b]) => is_within_limits(a, a.rows(), a.cols() + b.cols()),
+        (Command::Solve, [a, b]) => is_within_limits(a, a.cols(), b.cols()),
+        (Command::Ple | Command::Pluq, [a]) => is_within_limits(a, a.rows(), a.rows()),
         _ => true,
     }
+}
+
+/// Whether a matrix of these sizes over the field of another one is within the limits.
+pub(crate) fn is_within_limits(over: &Mzed, rows: u32, cols: u32) -> bool
+    ensures { IsTrue result ↔ IsWithinLimits (width over.now.field) rows cols }
+{
+    within_limits(over.field().width(), rows, cols)
 }

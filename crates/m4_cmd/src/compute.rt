@@ -1,20 +1,17 @@
 //! The answer of a command to operands that fit it.
 
-ghost use Rattle.std.specs.Prelude.{◌≡◌, ◌≤◌, IfOk, IfErr, All, [], ◌∷◌};
+ghost use Rattle.std.specs.Prelude.{◌≡◌, IfOk, IfErr, All, [], ◌∷◌};
 ghost use Rattle.m4_model.specs.Outcome.{Fits, InKnownBounds, HasAnswer};
-ghost use Rattle.m4_cmd.specs.Answer.{answer_told};
-ghost use Rattle.m4_cmd.specs.Steps.{AnswerFails};
+ghost use Rattle.m4_cmd.specs.Answer.{answer_told, IsOverBits};
+ghost use Rattle.m4_cmd.specs.Steps.{AnswerFails, IsOperand};
 
 use crate::answer::{Answer, AnswerFault};
-use crate::factors::{ple_of, pluq_of};
-use crate::method::Method;
-use crate::product::{multiply, with_product};
-use crate::shape::sum;
-use crate::systems::{basis_of, inverse_of, rank_of, reduced, solution_of};
+use crate::systems::{basis_of, inverse_of, solution_of};
+use m4_dense::{
+    How, Mzd, Mzed, Rect, add_into, add_product, augment, ple, pluq, product, rank, rectangle,
+    reduced_form, stack, transpose,
+};
 use m4_model::Command;
-use m4_mzd::{Mzd, Rect};
-use m4_shape::{augment, stack, sub, transpose};
-use m4_text::MOST_COLS;
 use std::alloc::Global;
 use std::mem;
 
@@ -23,43 +20,67 @@ use std::mem;
 pub(crate) fn compute(
     alloc: Global,
     command: Command,
-    method: Method,
-    operands: &mut [Mzd],
+    how: How,
+    operands: &mut [Mzed],
 ) -> Result<Answer, AnswerFault>
     requires fits { Fits command operands.old }
     requires bounds { InKnownBounds command operands.old }
-    requires few_cols { All (λ M. M.cols ≤ MOST_COLS) operands.old }
+    requires operands { All IsOperand operands.old }
     ensures good { IfOk result (λ answer. HasAnswer command operands.old (answer_told answer)) }
+    ensures over_gf2 { IfOk result IsOverBits }
     ensures fails { IfErr result (AnswerFails command operands.old) }
 {
-    match (command, operands) {
-        (command, [a]) => of_one(alloc, command, method, taken(alloc, a)),
-        (command, [a, b]) => of_two(alloc, command, method, taken(alloc, a), b),
-        (Command::Addmul { row, col }, [c, a, b]) => {
-            let sum = with_product(alloc, method, taken(alloc, c), (row, col), a, b)?;
-            Ok(Answer::Matrix(sum))
+    match operands.split_first_mut() {
+        Some((first, others)) => of_some(alloc, command, how, first, others),
+        None => unreachable!(),
+    }
+}
+
+/// The answer of a command to a first operand, which is taken, and to others.
+fn of_some(
+    alloc: Global,
+    command: Command,
+    how: How,
+    first: &mut Mzed,
+    others: &[Mzed],
+) -> Result<Answer, AnswerFault>
+    requires fits { Fits command (first.old ∷ others.now) }
+    requires bounds { InKnownBounds command (first.old ∷ others.now) }
+    requires first { IsOperand first.old }
+    requires others { All IsOperand others.now }
+    ensures good { IfOk result (λ answer. HasAnswer command (first.old ∷ others.now) (answer_told answer)) }
+    ensures over_gf2 { IfOk result IsOverBits }
+    ensures fails { IfErr result (AnswerFails command (first.old ∷ others.now)) }
+{
+    match (command, others) {
+        (command, []) => of_one(alloc, command, how, first),
+        (command, [b]) => of_two(alloc, command, how, first, b),
+        (Command::Addmul { row, col }, [a, b]) => {
+            add_product(alloc, how, first, (row, col), a, b)?;
+            Ok(Answer::Matrix(taken(alloc, first)))
         }
         _ => unreachable!(),
     }
 }
 
 /// The matrix, in whose place an empty one is left.
-fn taken(alloc: Global, matrix: &mut Mzd) -> Mzd
+fn taken(alloc: Global, matrix: &mut Mzed) -> Mzed
     ensures { result ≡ matrix.old }
 {
-    mem::replace(matrix, Mzd::empty(alloc))
+    mem::replace(matrix, Mzed::of_bits(Mzd::empty(alloc)))
 }
 
-/// The answer of a command to one operand.
-fn of_one(alloc: Global, command: Command, method: Method, a: Mzd) -> Result<Answer, AnswerFault>
-    requires fits { Fits command (a ∷ []) }
-    requires bounds { InKnownBounds command (a ∷ []) }
-    requires few_cols { a.cols ≤ MOST_COLS }
-    ensures good { IfOk result (λ answer. HasAnswer command (a ∷ []) (answer_told answer)) }
-    ensures fails { IfErr result (AnswerFails command (a ∷ [])) }
+/// The answer of a command to one operand, which is taken.
+fn of_one(alloc: Global, command: Command, how: How, a: &mut Mzed) -> Result<Answer, AnswerFault>
+    requires fits { Fits command (a.old ∷ []) }
+    requires bounds { InKnownBounds command (a.old ∷ []) }
+    requires operand { IsOperand a.old }
+    ensures good { IfOk result (λ answer. HasAnswer command (a.old ∷ []) (answer_told answer)) }
+    ensures over_gf2 { IfOk result IsOverBits }
+    ensures fails { IfErr result (AnswerFails command (a.old ∷ [])) }
 {
     match command {
-        Command::Transpose => Ok(Answer::Matrix(transpose(alloc, &a.all())?)),
+        Command::Transpose => Ok(Answer::Matrix(transpose(alloc, a)?)),
         Command::Sub {
             row,
             col,
@@ -72,38 +93,44 @@ fn of_one(alloc: Global, command: Command, method: Method, a: Mzd) -> Result<Ans
                 r1: row_end,
                 c1: col_end,
             };
-            Ok(Answer::Matrix(sub(alloc, &a.all(), rect)?))
+            Ok(Answer::Matrix(rectangle(alloc, a, rect)?))
         }
-        Command::Convert => Ok(Answer::Matrix(a)),
-        Command::Rank => Ok(rank_of(alloc, method, &a)?),
-        Command::Echelon => Ok(Answer::Matrix(reduced(alloc, method, a)?)),
-        Command::Inverse => Ok(inverse_of(alloc, method, &a)?),
-        Command::Kernel => basis_of(alloc, method, &a),
-        Command::Ple => Ok(Answer::Ple(ple_of(alloc, method, a)?)),
-        Command::Pluq => Ok(Answer::Pluq(pluq_of(alloc, method, a)?)),
+        Command::Convert => Ok(Answer::Matrix(taken(alloc, a))),
+        Command::Rank => Ok(Answer::Rank(rank(alloc, how, a)?)),
+        Command::Echelon => Ok(Answer::Matrix(reduced_form(alloc, how, taken(alloc, a))?)),
+        Command::Inverse => Ok(inverse_of(alloc, how, a)?),
+        Command::Kernel => basis_of(alloc, how, a),
+        Command::Ple => Ok(Answer::Ple(ple(alloc, how, taken(alloc, a))?)),
+        Command::Pluq => Ok(Answer::Pluq(pluq(alloc, how, taken(alloc, a))?)),
         _ => unreachable!(),
     }
 }
 
-/// The answer of a command to two operands.
+/// The answer of a command to two operands, of which the first is taken.
 fn of_two(
     alloc: Global,
     command: Command,
-    method: Method,
-    a: Mzd,
-    b: &Mzd,
+    how: How,
+    a: &mut Mzed,
+    b: &Mzed,
 ) -> Result<Answer, AnswerFault>
-    requires fits { Fits command (a ∷ b.now ∷ []) }
-    requires bounds { InKnownBounds command (a ∷ b.now ∷ []) }
-    ensures good { IfOk result (λ answer. HasAnswer command (a ∷ b.now ∷ []) (answer_told answer)) }
-    ensures fails { IfErr result (AnswerFails command (a ∷ b.now ∷ [])) }
+    requires fits { Fits command (a.old ∷ b.now ∷ []) }
+    requires bounds { InKnownBounds command (a.old ∷ b.now ∷ []) }
+    requires first { IsOperand a.old }
+    requires second { IsOperand b.now }
+    ensures good { IfOk result (λ answer. HasAnswer command (a.old ∷ b.now ∷ []) (answer_told answer)) }
+    ensures over_gf2 { IfOk result IsOverBits }
+    ensures fails { IfErr result (AnswerFails command (a.old ∷ b.now ∷ [])) }
 {
     match command {
-        Command::Mul => Ok(Answer::Matrix(multiply(alloc, method, &a, b)?)),
-        Command::Add => Ok(Answer::Matrix(sum(a, b))),
-        Command::Stack => Ok(Answer::Matrix(stack(alloc, &a.all(), &b.all())?)),
-        Command::Augment => Ok(Answer::Matrix(augment(alloc, &a.all(), &b.all())?)),
-        Command::Solve => Ok(solution_of(alloc, method, &a, b)?),
+        Command::Mul => Ok(Answer::Matrix(product(alloc, how, a, b)?)),
+        Command::Add => {
+            add_into(a, b);
+            Ok(Answer::Matrix(taken(alloc, a)))
+        }
+        Command::Stack => Ok(Answer::Matrix(stack(alloc, a, b)?)),
+        Command::Augment => Ok(Answer::Matrix(augment(alloc, a, b)?)),
+        Command::Solve => Ok(solution_of(alloc, how, a, b)?),
         _ => unreachable!(),
     }
 }

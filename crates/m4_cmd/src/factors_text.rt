@@ -1,21 +1,23 @@
 //! The text of factors: the rank, the orders of rows and columns, and the two factors. It is written without memory.
 
 ghost use Rattle.std.specs.Prelude.{◌≡◌, ◌≤◌, ◌++◌, length};
+ghost use Rattle.m4_model.specs.Field.{gf2};
 ghost use Rattle.m4_model.specs.Outcome.{factors_text, numbers_line, rank_line};
 ghost use Rattle.m4_model.specs.Text.{text};
 ghost use Rattle.m4_io.specs.Outside.{WritesAll};
 ghost use Rattle.m4_cmd.specs.Factors.{ple_text, pluq_text, rows_line};
 
-use crate::factors::{PleFactors, PluqFactors};
 use crate::line::rank_line;
+use m4_dense::{Mzed, PleFactors, PluqFactors};
 use m4_io::{Sink, write_whole};
-use m4_ple::Factors;
 use m4_text::{WriteFault, write_numbers, write_text};
 
 /// Writes the text of a PLE.
-pub(crate) fn write_ple<O: Sink>(ple: &PleFactors, out: &mut O) -> Result<(), WriteFault>
+pub(crate) fn write_ple<O: Sink>(ple: PleFactors, out: &mut O) -> Result<(), WriteFault>
+    requires l_over_gf2 { ple.l.field ≡ gf2 }
+    requires e_over_gf2 { ple.e.field ≡ gf2 }
     ensures { WritesAll (O.taken out.old) (O.taken out.new) (O.faults out.old) (O.faults out.new) result
-        (ple_text ple.now) }
+        (ple_text ple) }
 {
     let pivots = ple.pivots.as_slice();
     write_heading(
@@ -25,13 +27,15 @@ pub(crate) fn write_ple<O: Sink>(ple: &PleFactors, out: &mut O) -> Result<(), Wr
         pivots,
         out,
     )?;
-    write_both(&ple.factors, out)
+    write_both(ple.l, ple.e, out)
 }
 
 /// Writes the text of a PLUQ.
-pub(crate) fn write_pluq<O: Sink>(pluq: &PluqFactors, out: &mut O) -> Result<(), WriteFault>
+pub(crate) fn write_pluq<O: Sink>(pluq: PluqFactors, out: &mut O) -> Result<(), WriteFault>
+    requires l_over_gf2 { pluq.l.field ≡ gf2 }
+    requires u_over_gf2 { pluq.u.field ≡ gf2 }
     ensures { WritesAll (O.taken out.old) (O.taken out.new) (O.faults out.old) (O.faults out.new) result
-        (pluq_text pluq.now) }
+        (pluq_text pluq) }
 {
     let columns = pluq.columns.as_list();
     write_heading(
@@ -41,7 +45,7 @@ pub(crate) fn write_pluq<O: Sink>(pluq: &PluqFactors, out: &mut O) -> Result<(),
         columns,
         out,
     )?;
-    write_both(&pluq.factors, out)
+    write_both(pluq.l, pluq.u, out)
 }
 
 /// Writes what stands before the factors: the rank, the order of the rows, and under this name what is told of columns.
@@ -76,10 +80,12 @@ fn write_orders<O: Sink>(
 }
 
 /// Writes the two factors as headed texts.
-fn write_both<O: Sink>(factors: &Factors, out: &mut O) -> Result<(), WriteFault>
+fn write_both<O: Sink>(first: Mzed, second: Mzed, out: &mut O) -> Result<(), WriteFault>
+    requires first { first.field ≡ gf2 }
+    requires second { second.field ≡ gf2 }
     ensures { WritesAll (O.taken out.old) (O.taken out.new) (O.faults out.old) (O.faults out.new) result
-        (text factors.now.l ++ text factors.now.e) }
+        (text first ++ text second) }
 {
-    write_text(&factors.l, out)?;
-    write_text(&factors.e, out)
+    write_text(&first.into_bits(), out)?;
+    write_text(&second.into_bits(), out)
 }

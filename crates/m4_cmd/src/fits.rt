@@ -3,12 +3,11 @@
 ghost use Rattle.std.specs.Prelude.{◌↔◌, IsTrue};
 ghost use Rattle.m4_model.specs.Outcome.{Fits, HasRectangle, HasRoom};
 
-use crate::bounds::BITS;
+use m4_dense::Mzed;
 use m4_model::Command;
-use m4_mzd::Mzd;
 
 /// Whether the operands are as many as the command takes, and their shapes fit it.
-pub(crate) fn fits(command: Command, operands: &[Mzd]) -> bool
+pub(crate) fn fits(command: Command, operands: &[Mzed]) -> bool
     ensures { IsTrue result ↔ Fits command operands.now }
 {
     match (command, operands) {
@@ -37,15 +36,19 @@ pub(crate) fn fits(command: Command, operands: &[Mzd]) -> bool
 
 /// Whether a rectangle of so many rows and columns at this place of `c` begins at a word's first column, and lies within
 /// `c`.
-fn has_room(c: &Mzd, row: u32, col: u32, rows: u32, cols: u32) -> bool
+fn has_room(c: &Mzed, row: u32, col: u32, rows: u32, cols: u32) -> bool
     ensures { IsTrue result ↔ HasRoom c.now row col rows cols }
 {
     let (high, wide) = (c.rows(), c.cols());
-    row <= high && rows <= high - row && col <= wide && cols <= wide - col && col * BITS % 64 == 0
+    row <= high
+        && rows <= high - row
+        && col <= wide
+        && cols <= wide - col
+        && col * c.field().width() % 64 == 0
 }
 
 /// Whether rows `row` to `row_end - 1` and columns `col` to `col_end - 1` are those of a rectangle of `a`.
-fn has_rectangle(a: &Mzd, row: u32, col: u32, row_end: u32, col_end: u32) -> bool
+fn has_rectangle(a: &Mzed, row: u32, col: u32, row_end: u32, col_end: u32) -> bool
     ensures { IsTrue result ↔ HasRectangle a.now row col row_end col_end }
 {
     row <= row_end && col <= col_end && row_end <= a.rows() && col_end <= a.cols()

@@ -4,20 +4,16 @@
 mod answer;
 mod bounds;
 mod compute;
-mod engine;
 mod exit;
-mod factors;
 mod factors_text;
 mod fault_line;
 mod fits;
 mod gate;
+mod how;
 mod line;
-mod method;
 mod operands;
 mod output;
-mod product;
 mod program;
-mod shape;
 mod systems;
 
 pub use exit::exit_code;

@@ -1,12 +1,12 @@
 //! The operands of a job: its files, each read to its end, or to its first fault, before the next.
 
-ghost use Rattle.std.specs.Prelude.{◌≡◌, ◌≤◌, IfOk, IfErr, OnOk, All, map};
-ghost use Rattle.m4_cmd.specs.Steps.{AreReadAs, IsReadAs, OperandFails, OperandsFail, operand_status};
+ghost use Rattle.std.specs.Prelude.{◌≡◌, IfOk, IfErr, OnOk, All, map};
+ghost use Rattle.m4_cmd.specs.Steps.{AreReadAs, IsOperand, IsReadAs, OperandFails, OperandsFail, operand_status};
 
+use m4_dense::Mzed;
 use m4_io::{ReadFault, Shelf, read_whole};
 use m4_model::{Form, Status};
-use m4_mzd::Mzd;
-use m4_text::{MOST_BYTES, MOST_COLS, TextFault, read_as};
+use m4_text::{MOST_BYTES, TextFault, read_as};
 use std::alloc::{AllocFailed, Global};
 
 /// Why the operands can't be had.
@@ -52,10 +52,10 @@ pub(crate) fn read_operands<S: Shelf>(
     shelf: &mut S,
     form: Form,
     names: &[&str],
-) -> Result<Vec<Mzd>, OperandFault>
+) -> Result<Vec<Mzed>, OperandFault>
     ensures stock { S.stock shelf.new ≡ S.stock shelf.old }
     ensures read { IfOk result (λ matrices. AreReadAs (S.stock shelf.old) form (map (λ name. name.now) names.now) matrices.items) }
-    ensures few_cols { IfOk result (λ matrices. All (λ M. M.cols ≤ MOST_COLS) matrices.items) }
+    ensures operands { IfOk result (λ matrices. All IsOperand matrices.items) }
     ensures kept { OnOk result (S.faults shelf.new ≡ S.faults shelf.old) }
     ensures fails { IfErr result (OperandsFail (S.stock shelf.old) form (map (λ name. name.now) names.now)
         (S.faults shelf.old) (S.faults shelf.new)) }
@@ -75,10 +75,10 @@ fn read_operand<S: Shelf>(
     form: Form,
     name: &str,
     number: u64,
-) -> Result<Mzd, OperandFault>
+) -> Result<Mzed, OperandFault>
     ensures stock { S.stock shelf.new ≡ S.stock shelf.old }
     ensures read { IfOk result (IsReadAs (S.stock shelf.old) form name.now) }
-    ensures few_cols { IfOk result (λ m. m.cols ≤ MOST_COLS) }
+    ensures operand { IfOk result IsOperand }
     ensures kept { OnOk result (S.faults shelf.new ≡ S.faults shelf.old) }
     ensures fails { IfErr result (OperandFails (S.stock shelf.old) form name.now number (S.faults shelf.old) (S.faults shelf.new)) }
 {
@@ -88,7 +88,7 @@ fn read_operand<S: Shelf>(
         Err(ReadFault::NoMemory) => return Err(OperandFault::NoMemory),
     };
     match read_as(alloc, form, &bytes) {
-        Ok(matrix) => Ok(matrix),
+        Ok(matrix) => Ok(Mzed::of_bits(matrix)),
         Err(TextFault::Bad { at }) => Err(OperandFault::Bad {
             operand: number,
             at,

@@ -1,16 +1,17 @@
 //! The text of an answer, as it is written.
 
 ghost use Rattle.std.specs.Prelude.{◌≡◌, IfErr, OnOk, codes};
+ghost use Rattle.m4_model.specs.Field.{gf2};
 ghost use Rattle.m4_model.specs.Outcome.{OneMatrix};
-ghost use Rattle.m4_cmd.specs.Answer.{answer_told};
+ghost use Rattle.m4_cmd.specs.Answer.{answer_told, IsOverBits};
 ghost use Rattle.m4_cmd.specs.Steps.{OutputFails, Wrote, output_status};
 
 use crate::answer::Answer;
 use crate::factors_text::{write_ple, write_pluq};
 use crate::line::{plain_line, rank_line};
+use m4_dense::Mzed;
 use m4_io::{Failed, Sink, write_whole};
 use m4_model::{Form, Status};
-use m4_mzd::Mzd;
 use m4_text::{WriteFault, can_write, write_as};
 
 /// Why the text of an answer isn't written, or not whole.
@@ -56,17 +57,18 @@ impl From<WriteFault> for OutputFault {
 
 /// Writes the text of an answer. One matrix is written in this form, where the form can hold it.
 pub(crate) fn write_answer<O: Sink>(
-    answer: &Answer,
+    answer: Answer,
     form: Form,
     out: &mut O,
 ) -> Result<(), OutputFault>
-    ensures wrote { OnOk result (Wrote form (answer_told answer.now) (record {
+    requires { IsOverBits answer }
+    ensures wrote { OnOk result (Wrote form (answer_told answer) (record {
       before = O.faults out.old;
       now = O.faults out.new;
       taken_before = O.taken out.old;
       taken_now = O.taken out.new;
     })) }
-    ensures fails { IfErr result (OutputFails form (answer_told answer.now) (record {
+    ensures fails { IfErr result (OutputFails form (answer_told answer) (record {
       before = O.faults out.old;
       now = O.faults out.new;
       taken_before = O.taken out.old;
@@ -75,7 +77,7 @@ pub(crate) fn write_answer<O: Sink>(
 {
     match answer {
         Answer::Matrix(matrix) => return write_matrix(matrix, form, out),
-        Answer::Rank(rank) => write_whole(out, rank_line(u64::from(*rank)).as_bytes())?,
+        Answer::Rank(rank) => write_whole(out, rank_line(u64::from(rank)).as_bytes())?,
         Answer::Ple(factors) => write_ple(factors, out)?,
         Answer::Pluq(factors) => write_pluq(factors, out)?,
         Answer::Singular => write_whole(out, plain_line("singular\n").as_bytes())?,
@@ -85,23 +87,25 @@ pub(crate) fn write_answer<O: Sink>(
 }
 
 /// Writes the text of one matrix in this form, where the form can hold it.
-fn write_matrix<O: Sink>(matrix: &Mzd, form: Form, out: &mut O) -> Result<(), OutputFault>
-    ensures wrote { OnOk result (Wrote form (OneMatrix matrix.now) (record {
+fn write_matrix<O: Sink>(matrix: Mzed, form: Form, out: &mut O) -> Result<(), OutputFault>
+    requires { matrix.field ≡ gf2 }
+    ensures wrote { OnOk result (Wrote form (OneMatrix matrix) (record {
       before = O.faults out.old;
       now = O.faults out.new;
       taken_before = O.taken out.old;
       taken_now = O.taken out.new;
     })) }
-    ensures fails { IfErr result (OutputFails form (OneMatrix matrix.now) (record {
+    ensures fails { IfErr result (OutputFails form (OneMatrix matrix) (record {
       before = O.faults out.old;
       now = O.faults out.new;
       taken_before = O.taken out.old;
       taken_now = O.taken out.new;
     })) }
 {
-    if !can_write(matrix, form) {
+    let bits = matrix.into_bits();
+    if !can_write(&bits, form) {
         return Err(OutputFault::Shape);
     }
-    write_as(matrix, form, out)?;
+    write_as(&bits, form, out)?;
     Ok(())
 }

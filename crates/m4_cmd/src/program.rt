@@ -11,7 +11,7 @@ ghost use Rattle.m4_cmd.specs.Steps.{JobGives, WorkGives};
 use crate::answer::answer_of;
 use crate::fault_line::line_of;
 use crate::gate::Gate;
-use crate::method::Method;
+use crate::how::how_of;
 use crate::operands::read_operands;
 use crate::output::write_answer;
 use m4_io::{Shelf, Sink, write_whole};
@@ -114,13 +114,14 @@ fn perform<S: Shelf, O: Sink>(alloc: Global, job: &Job, shelf: &mut S, out: &mut
         Ok(operands) => operands,
         Err(fault) => return fault.status(),
     };
-    let method = Method::of(&job.choices);
-    let answer = match answer_of(alloc, job.command, method, &mut operands) {
+    let how = how_of(&job.choices);
+    let answer = match answer_of(alloc, job.command, how, &mut operands) {
         Ok(answer) => answer,
         Err(fault) => return fault.status(),
     };
-    match write_answer(&answer, job.choices.form_of_answer(), out) {
-        Ok(()) => answer.status(),
+    let status = answer.status();
+    match write_answer(answer, job.choices.form_of_answer(), out) {
+        Ok(()) => status,
         Err(fault) => fault.status(),
     }
 }

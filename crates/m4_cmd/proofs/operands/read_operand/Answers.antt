@@ -1,6 +1,7 @@
-use Rattle.std.proofs.Common.{◌≡◌, ℕ, ◌^◌, List, subst, sym, refl}
+use Rattle.std.proofs.Common.{◌^◌, subst, sym, refl}
 use Rattle.m4_model.specs.Text.{BadAt, PastLimit}
 use Rattle.m4_io.specs.Reading.{IsFileOrLong}
+use Rattle.m4_cmd.specs.Steps.{IsReadAs}
 use Rattle.m4_cmd.proofs.StepLemmas.{read_is_whole, front_refuses}
 use Rattle.m4_cmd.proofs.operands.read_operand.Goals as goal
 
@@ -8,7 +9,8 @@ pub returns-in-Ok-read_as-clause-read : goal.returns-in-Ok-read_as-clause-read
 returns-in-Ok-read_as-clause-read g c =
     let told = g.S.Shelf.stock c.args.shelf.now in
     let file = subst (IsFileOrLong told c.args.name.now (2 ^ 29)) (sym c.deref.ensures.value) c.in-Ok.ensures.bytes in
-    read_is_whole told c.args.form c.args.name.now c.deref.result.now c.in-Ok-read_as.matrix file c.in-Ok-read_as.ensures.ok
+    subst (IsReadAs told c.args.form c.args.name.now) (sym c.of_bits.ensures)
+    (read_is_whole told c.args.form c.args.name.now c.deref.result.now c.in-Ok-read_as.matrix file c.in-Ok-read_as.ensures.ok)
 
 pub returns-in-Err-Bad-clause-fails : goal.returns-in-Err-Bad-clause-fails
 returns-in-Err-Bad-clause-fails g c =
