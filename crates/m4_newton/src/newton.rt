@@ -48,12 +48,13 @@ impl<M: AddMul> Model for Newton<M> {
 
     ghost view = { λ n. strips_of n.room (M.limits n.engine) };
 
-    ghost invariant = { λ n. AreStrips (strips_of n.room (M.limits n.engine)) };
+    ghost invariant = { λ n. AreStrips (strips_of n.room (M.limits n.engine)) × M.ready n.engine };
 }
 
 impl<M: AddMul + Drop> Newton<M> {
-    /// The engine for products over this field of up to `cols` columns, over an engine for bits.
+    /// The engine for products over this field of up to `cols` columns, over an engine for bits that can be called.
     pub fn new(alloc: Global, field: Field, cols: u32, engine: M) -> Result<Newton<M>, NoMemory>
+        requires ready { M.ready engine }
         requires few_bits { cols * width (the_field field) ≤ 2 ^ 24 }
         requires wide { cols * width (the_field field) ≤ (M.limits engine).n }
         requires deep { 64 ≤ (M.limits engine).l }

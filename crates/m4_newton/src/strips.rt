@@ -24,6 +24,7 @@ pub(crate) fn add_by_strips<M: AddMul, L: Ledger>(
     b: &EWin,
     steps: &mut Steps<L>,
 )
+    requires ready { M.ready engine.old }
     requires strips { AreStrips (strips_of room.old (M.limits engine.old)) }
     requires room_field { c.old.field ≡ room.old.field }
     requires a_field { (e_shown a.now).field ≡ c.old.field }
@@ -34,6 +35,7 @@ pub(crate) fn add_by_strips<M: AddMul, L: Ledger>(
     requires few_rows { c.old.rows ≤ (M.limits engine.old).m }
     requires few_cols { c.old.cols ≤ room.old.cols }
     ensures sum { c.new ≡ showing c.old (added (content c.old) (product (e_shown a.now) (e_shown b.now))) }
+    ensures still_ready { M.ready engine.new }
     ensures same { strips_of room.new (M.limits engine.new) ≡ strips_of room.old (M.limits engine.old) }
     ensures ticks { steps.new ≡ steps.old + (e_shown b.now).rows }
 {
@@ -69,9 +71,11 @@ fn add_strip<M: AddMul, L: Ledger>(
     requires room_field { room.old.field ≡ c.old.field }
     requires room_rows { (e_shown b.now).rows * width c.old.field ≤ room.old.rows }
     requires room_cols { c.old.cols ≤ room.old.cols }
+    requires ready { M.ready engine.old }
     requires reached { IsReached (M.limits engine.old) c.old.rows ((e_shown b.now).rows * width c.old.field) (c.old.cols * width c.old.field) }
     ensures sum { c.new ≡ showing c.old (added (content c.old) (product (e_shown a.now) (e_shown b.now))) }
     ensures reach { M.limits engine.new ≡ M.limits engine.old }
+    ensures still_ready { M.ready engine.new }
     ensures same_field { room.new.field ≡ room.old.field }
     ensures same_rows { room.new.rows ≡ room.old.rows }
     ensures same_cols { room.new.cols ≡ room.old.cols }
@@ -101,9 +105,11 @@ fn add_by_bits<M: AddMul>(engine: &mut M, c: &mut EWinMut, a: &EWin, b: &EWin, m
     requires multiples_cols { (e_shown multiples.now).cols ≡ c.old.cols }
     requires multiples_rows { (e_shown multiples.now).rows ≡ (e_shown b.now).rows * width c.old.field }
     requires multiples { HasMultiples (e_shown multiples.now) (e_shown b.now) (e_shown b.now).rows }
+    requires ready { M.ready engine.old }
     requires reached { IsReached (M.limits engine.old) c.old.rows ((e_shown b.now).rows * width c.old.field) (c.old.cols * width c.old.field) }
     ensures sum { c.new ≡ showing c.old (added (content c.old) (product (e_shown a.now) (e_shown b.now))) }
     ensures reach { M.limits engine.new ≡ M.limits engine.old }
+    ensures still_ready { M.ready engine.new }
 {
     let field = c.field();
     let cols = c.cols();

@@ -20,4 +20,5 @@ mod side;
 mod tests;
 
 pub use left::{solve_lower_left, solve_upper_left};
+pub use parts::half;
 pub use right::{solve_lower_right, solve_upper_right};

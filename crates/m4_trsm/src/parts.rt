@@ -8,7 +8,8 @@ ghost use Rattle.m4_mzed.specs.ESeen.{e_shown};
 use m4_bits::words_for;
 use m4_mzed::EWin;
 
-/// Where a triangle of so many rows, more than 64, is cut: at half of its words, rounded down.
+/// Where a triangle of so many rows, or a matrix of so many columns, more than 64, is cut: at half of its words of 64 entries,
+/// rounded down.
 pub fn half(rows: u32) -> u32
     requires { 64 < rows }
     ensures some { 0 < result }

@@ -15,6 +15,7 @@ loop-left-init g c = record {
   room_field = refl;
   room_rows = refl;
   room_cols = refl;
+  ready = c.requires.ready;
   limits = refl;
   ticks = refl;
 }
@@ -43,6 +44,7 @@ loop-left-preserved g c =
       room_field = c.add_strip.ensures.same_field ∙ now.room_field;
       room_rows = c.add_strip.ensures.same_rows ∙ now.room_rows;
       room_cols = c.add_strip.ensures.same_cols ∙ now.room_cols;
+      ready = c.add_strip.ensures.still_ready;
       limits = c.add_strip.ensures.reach ∙ now.limits;
       ticks = omega (arith, now.ticks, c.add_strip.ensures.ticks, ap (λ (M : Matrix). M.rows) c.split_rows.ensures.above, ap (λ (M : Matrix). M.rows) c.split_rows.ensures.below, c.loop-left-test.true, c.rows-in-loop-left.ensures.rows);
     }

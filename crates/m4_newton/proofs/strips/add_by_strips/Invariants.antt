@@ -9,6 +9,7 @@ invariant-loop-left g l = record {
   room_field : l.room.field ≡ l.fn.room.field;
   room_rows : l.room.rows ≡ l.fn.room.rows;
   room_cols : l.room.cols ≡ l.fn.room.cols;
+  ready : g.M.AddMul.ready l.engine;
   limits : g.M.AddMul.limits l.engine ≡ g.M.AddMul.limits l.fn.engine;
   ticks : l.steps + (e_shown l.below).rows ≡ l.fn.steps + (e_shown l.b).rows;
 }
