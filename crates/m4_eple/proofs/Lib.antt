@@ -1,0 +1,4 @@
+pub mod SwapLemmas
+pub mod StepParts
+pub mod TableLemmas
+pub mod MoveLemmas
