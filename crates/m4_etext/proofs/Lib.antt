@@ -1,0 +1,5 @@
+pub mod Fronts
+pub mod Numerals
+pub mod Numbers
+pub mod Openings
+pub mod Headers
