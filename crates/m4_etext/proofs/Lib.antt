@@ -3,3 +3,6 @@ pub mod Numerals
 pub mod Numbers
 pub mod Openings
 pub mod Headers
+pub mod RowDigits
+pub mod Rows
+pub mod Pieces

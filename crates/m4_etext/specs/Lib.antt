@@ -1,2 +1,3 @@
 pub mod Place
 pub mod Parsed
+pub mod Pieces
