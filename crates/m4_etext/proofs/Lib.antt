@@ -6,3 +6,5 @@ pub mod Headers
 pub mod RowDigits
 pub mod Rows
 pub mod Pieces
+pub mod BitRows
+pub mod ElementRows

@@ -1,3 +1,4 @@
 pub mod Place
 pub mod Parsed
 pub mod Pieces
+pub mod Kinds

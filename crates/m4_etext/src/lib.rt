@@ -1,10 +1,14 @@
 //! The texts of a matrix over any field.
 #![tactic(auto)]
 
+mod bits;
+mod elements;
 mod fault;
 mod header;
+mod kind;
 mod limits;
 mod opening;
+mod piece;
 mod radix;
 
 pub use fault::{TextFault, WriteFault};
