@@ -8,3 +8,5 @@ pub mod Rows
 pub mod Pieces
 pub mod BitRows
 pub mod ElementRows
+pub mod HeadLemmas
+pub mod Versions

@@ -372,3 +372,10 @@ lines_short k bytes place stands here below =
       digit = λ _ some. absurd (omega arith);
       ending = λ _ some. absurd (omega arith);
     }))
+
+-- all lines are there
+pub lines_read : (k : Kept) (bytes : List ℕ) → StandsForLines k bytes → k.row_next ≡ k.matrix.rows → (bytes ≡ text_in k.spelling k.matrix) × IsMatrix k.matrix
+lines_read k bytes stands all = (
+  stands.spelled ∙ ap (λ l. header k.spelling k.matrix.rows k.matrix.cols ++ l) (body_whole k.spelling k.matrix k.row_next k.place_next stands.body all stands.read),
+  stands.read.matrix,
+)

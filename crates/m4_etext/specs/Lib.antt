@@ -2,3 +2,4 @@ pub mod Place
 pub mod Parsed
 pub mod Pieces
 pub mod Kinds
+pub mod Heads

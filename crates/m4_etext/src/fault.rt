@@ -2,6 +2,7 @@ ghost use Rattle.std.specs.Prelude.{◌≡◌};
 ghost use Rattle.m4_etext.specs.declared.fault.TextFault.TheVariants.{NoMemory as no_memory};
 ghost use Rattle.m4_etext.specs.declared.fault.WriteFault.TheVariants.{Failed as failed};
 
+use m4_field::FieldFault;
 use m4_io::Failed;
 use m4_model::NoMemory;
 use thiserror::Error;
@@ -12,6 +13,9 @@ pub enum TextFault {
     /// The text goes wrong at this byte, counted from 0.
     #[error("bad text at byte {at}")]
     Bad { at: u64 },
+    /// There is no such field. The degree or the polynomial, whichever is at fault, begins at this byte.
+    #[error("no field at byte {at}")]
+    Field { at: u64, fault: FieldFault },
     /// The numbers of its header pass a limit.
     #[error("limit passed")]
     Limit,

@@ -4,6 +4,8 @@
 mod bits;
 mod elements;
 mod fault;
+mod fed;
+mod head;
 mod header;
 mod kind;
 mod limits;
