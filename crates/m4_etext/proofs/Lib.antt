@@ -10,3 +10,4 @@ pub mod BitRows
 pub mod ElementRows
 pub mod HeadLemmas
 pub mod Versions
+pub mod Readers

@@ -6,6 +6,9 @@ use Rattle.m4_model.specs.Matrix.{Matrix, IsMatrix}
 use Rattle.m4_model.specs.Text.{IsWithinLimits}
 use Rattle.m4_model.specs.Headed.{Spelling, Bits, Fours, Elements, Reads, HasField, field_of, text_in, headed_text, hex_text, first_version, second_version}
 use Rattle.m4_etext.specs.Pieces.{Kept, StandsForLines}
+use Rattle.m4_etext.specs.Kinds.{spelled_by, Suits}
+use Rattle.m4_etext.specs.declared.kind.Kind.{Kind}
+use Rattle.m4_etext.specs.declared.kind.Kind.TheVariants.{OfBits, OfFours, OfElements}
 use Rattle.m4_etext.proofs.Pieces.{lines_read}
 
 -- the spellings of a field
@@ -30,3 +33,9 @@ lines_whole k bytes stands all =
       accepted = record { matrix = matrix; limits = subst (λ F. IsWithinLimits (width F) k.matrix.rows k.matrix.cols) (sym field) stands.limits };
       spelled = of_version k.spelling k.matrix bytes stands.has_field field e;
     }
+
+-- the field of a spelling
+pub field_suits : (kind : Kind) (F : Field) → Suits kind F → field_of (spelled_by kind F) ≡ F
+field_suits OfBits F suits = sym suits
+field_suits OfFours F suits = sym suits
+field_suits OfElements F suits = refl
