@@ -285,3 +285,18 @@ moved k v x few small same =
     let room = joined_small v 4 (4 * k) 0 small p (omega arith) in
     let below : v * 2 ^ (4 * k) < 2 ^ 64 = omega (arith, room) in
     ap (λ y. y * 2 ^ (4 * k) % 2 ^ 64) same ∙ mod-eq_of_lt below
+
+-- a digit of four entries by the bits of their word
+pub four_of_bits : (entries : List ℕ) (w i word : ℕ) → i < 16 → ((j : ℕ) → j < 64 → bit_at word j ≡ get_or entries (w * 64 + j) 0)
+    → digit_of_four entries (16 * w + i) ≡ word / 16 ^ i % 16
+four_of_bits entries w i word few bits =
+    let at : (b : ℕ) → b < 4 → (p : ℕ) → p ≡ 4 * (16 * w + i) + b → get_or entries p 0 ≡ bit_at (word / 16 ^ i) b =
+    λ b small p is.
+    let place : w * 64 + (4 * i + b) ≡ p = omega (arith, is) in
+    sym (bits (4 * i + b) (omega (arith, few, small)) ∙ ap (λ q. get_or entries q 0) place) ∙ bit_shift word i b in
+    let a = at 0 (lit< tt) (4 * (16 * w + i)) (omega arith) in
+    let b = at 1 (lit< tt) (4 * (16 * w + i) + 1) refl in
+    let c = at 2 (lit< tt) (4 * (16 * w + i) + 2) refl in
+    let d = at 3 (lit< tt) (4 * (16 * w + i) + 3) refl in
+    ap₂ (λ x y. x + 2 * y + 4 * get_or entries (4 * (16 * w + i) + 2) 0 + 8 * get_or entries (4 * (16 * w + i) + 3) 0) a b
+    ∙ ap₂ (λ x y. bit_at (word / 16 ^ i) 0 + 2 * bit_at (word / 16 ^ i) 1 + 4 * x + 8 * y) c d ∙ nibble (word / 16 ^ i)

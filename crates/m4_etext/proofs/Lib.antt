@@ -1,4 +1,5 @@
 pub mod Fronts
+pub mod Putting
 pub mod Numerals
 pub mod Numbers
 pub mod Openings
@@ -11,3 +12,5 @@ pub mod ElementRows
 pub mod HeadLemmas
 pub mod Versions
 pub mod Readers
+pub mod HexNumbers
+pub mod WrittenRows

@@ -5,3 +5,5 @@ pub mod Kinds
 pub mod Heads
 pub mod Standing
 pub mod Reading
+pub mod Pending
+pub mod Digits
