@@ -229,9 +229,9 @@ module _ (bytes : List ℕ) where
       subst IsOpening (ap (λ w. w ++ rest_of k) (sym (take-append-drop place (word_of k))) ∙ append_assoc (take place (word_of k)) (drop place (word_of k)) (rest_of k)
           ∙ ap (λ w. w ++ (drop place (word_of k) ++ rest_of k)) (sym found.same)) (some_opening k),
     )
-    (λ inside goes.
-    let (rest, (S, few, e)) = goes in
-    no_letter k place by found inside S (front_byte bytes rest S place place inside (omega arith) e) (λ third. front_byte bytes rest S place 3 inside third e));
+        (λ inside goes.
+        let (rest, (S, few, e)) = goes in
+        no_letter k place by found inside S (front_byte bytes rest S place place inside (omega arith) e) (λ third. front_byte bytes rest S place 3 inside third e));
     unfinished = λ whole.
         let (S, few, e) = whole in
         let long = length-take-le place bytes found.within in

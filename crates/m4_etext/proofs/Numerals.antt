@@ -177,7 +177,7 @@ module _ (b : ℕ) (is : IsBase b) where
     first_of = by_digits (λ m ds. (0 < length ds) × (0 < m → 48 < get_or ds 0 0)) (λ m below. (omega arith, λ some. glyph_above m some))
         (λ m ds above h. (
           omega (arith, length-append ds (digit_glyph false (m % b) ∷ [])),
-          λ some. let q = is.more m above in omega (arith, get_or_append_left ds (digit_glyph false (m % b) ∷ []) 0 0 h.0, h.1 (positive (m / b) q))
+          λ some. let q = is.more m above in omega (arith, get_or_append_left ds (digit_glyph false (m % b) ∷ []) 0 0 h.0, h.1 (positive (m / b) q)),
         )) most n few small
       where
         positive : (q : ℕ) → (q ≡ 0 → ⊥) → 0 < q

@@ -17,10 +17,12 @@ mod pending;
 mod piece;
 mod radix;
 mod reader;
+#[cfg(test)]
+mod tests;
 mod write;
 
 pub use fault::{TextFault, WriteFault};
+pub use limits::{MOST_BYTES, MOST_COLS, MOST_ROWS, MOST_WORDS, within_limits};
 pub use number_line::write_numbers;
 pub use reader::HeadedReader;
 pub use write::{write_hex, write_text};
-pub use limits::{MOST_BYTES, MOST_COLS, MOST_ROWS, MOST_WORDS, within_limits};

@@ -181,7 +181,12 @@ fn put_fours<O: Sink>(m: &Mzed, r: u32, pending: &mut Pending, sink: &mut O) -> 
 }
 
 /// Puts the digits of row `r`, element by element.
-fn put_elements<O: Sink>(m: &Mzed, r: u32, pending: &mut Pending, sink: &mut O) -> Result<(), Failed>
+fn put_elements<O: Sink>(
+    m: &Mzed,
+    r: u32,
+    pending: &mut Pending,
+    sink: &mut O,
+) -> Result<(), Failed>
     requires in_rows { r < m.now.rows }
     ensures { Puts (O.taken sink.old) (O.taken sink.new) (O.faults sink.old) (O.faults sink.new)
         pending.old pending.new result (glyphs (Elements m.now.field) (row m.now r)) }

@@ -74,4 +74,3 @@ returns-in-Err-begin-clause-err c = λ bytes stands more.
     subst (λ (l : List ℕ). IsFaultOf (l ++ more) c.in-Err-begin.fault)
     (ap (λ l. (seen ++ take end piece) ++ l) (take_rest piece end) ∙ split_fed seen bytes piece end same)
     (c.in-Err-begin.ensures.err (seen ++ take end piece) whole.1 whole.2 more)
-
