@@ -149,9 +149,25 @@ impl Tables {
     }
 }
 
-/// The numbers of these entries among all, where each slot has `2^k`.
+/// The numbers of these entries among all, where each slot has `2^k`. For the largest `k` the shifts are the same for all rows
+/// that entries are added to, and are settled before the program runs.
 #[inline(always)]
 fn numbered<const T: usize>(k: u32, index: &[u32; T]) -> [u32; T]
+    requires small_k { k ≤ 8 }
+    requires few { T ≤ 8 }
+    requires in_slots { All (λ x. x < 2 ^ k) index.now }
+    ensures { result ≡ map (λ slot. slot * 2 ^ k + slice_index index.now slot) (range_with_len 0 (length index.now)) }
+{
+    if k == 8 {
+        numbered_by::<T>(8, index)
+    } else {
+        numbered_by::<T>(k, index)
+    }
+}
+
+/// The same, slot by slot.
+#[inline(always)]
+fn numbered_by<const T: usize>(k: u32, index: &[u32; T]) -> [u32; T]
     requires small_k { k ≤ 8 }
     requires few { T ≤ 8 }
     requires in_slots { All (λ x. x < 2 ^ k) index.now }

@@ -1,6 +1,6 @@
 use Rattle.std.proofs.Common.{◌<◌, length, refl, arith}
 use Rattle.m4_gray.proofs.SlotLemmas.{numbered-fits, numbered-more, numbered-all}
-use Rattle.m4_gray.proofs.tables.numbered.Goals as goal
+use Rattle.m4_gray.proofs.tables.numbered_by.Goals as goal
 
 pub overflow_add-numbers : goal.overflow_add-numbers
 overflow_add-numbers g c =
