@@ -1,12 +1,12 @@
 -- The multiples of rows by powers of x, put one after another.
-use Rattle.std.proofs.Common.{◌≡◌, ◌≢◌, ℕ, zero, suc, ◌+◌, ◌-◌, ◌*◌, ◌/◌, ◌%◌, ◌^◌, ◌<◌, ◌≤◌, inl, inr, List, [], ◌∷◌, length, get_or, set, map, refl, sym, ◌∙◌, ap, ap₂, subst, arith, bit_xor, mod-eq_of_lt}
+use Rattle.std.proofs.Common.{◌≡◌, ◌≢◌, ℕ, zero, suc, ◌+◌, ◌*◌, ◌%◌, ◌^◌, ◌<◌, ◌≤◌, inl, inr, List, [], ◌∷◌, length, refl, sym, ◌∙◌, ap, ap₂, subst, arith, mod-eq_of_lt}
 use Rattle.std.specs.Prelude.{replicate}
 use Rattle.std.specs.Int.Bits.{xor_zero_l}
 use Rattle.std.proofs.Math.Pow.{pow_mono, pow_pos}
 use Rattle.std.proofs.Math.Nat.{pow-suc}
 use Rattle.std.proofs.lemmas.Bool.{cases_lt}
-use Rattle.std.proofs.lemmas.List.{length-map, length-replicate, get_or-set_same, get_or-set_other}
-use Rattle.m4_model.specs.Field.{Field, IsCarried, mul, width}
+use Rattle.std.proofs.lemmas.List.{get_or-set_same, get_or-set_other}
+use Rattle.m4_model.specs.Field.{Field, IsCarried, width}
 use Rattle.m4_model.specs.Matrix.{Matrix, IsMatrix, row, row_sum, with_row}
 use Rattle.m4_field.proofs.WidthLemmas.{width_facts}
 use Rattle.m4_mul.proofs.PlainLemmas.{with_row-with_row}

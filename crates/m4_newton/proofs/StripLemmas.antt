@@ -1,10 +1,10 @@
 -- A product by parts of the first factor's columns and the second's rows.
-use Rattle.std.proofs.Common.{◌≡◌, ℕ, zero, suc, ◌+◌, ◌-◌, ◌*◌, ◌/◌, ◌%◌, ◌<◌, ◌≤◌, [], get_or, take, drop, map, refl, sym, ◌∙◌, ap, ap₂, subst, arith, bit_xor}
+use Rattle.std.proofs.Common.{◌≡◌, ℕ, zero, suc, ◌+◌, ◌-◌, ◌*◌, ◌/◌, ◌%◌, ◌<◌, ◌≤◌, [], get_or, take, drop, map, refl, sym, ◌∙◌, ap, ap₂, arith, bit_xor}
 use Rattle.std.specs.Int.Bits.{xor_assoc}
 use Rattle.std.proofs.Math.Nat.{mul-add-mod_self_right, mod-add-div', zero-mod}
 use Rattle.std.proofs.lemmas.List.{get_or-map, get_or-take, get_or-drop}
 use Rattle.m4_model.specs.Field.{mul, sum_below}
-use Rattle.m4_model.specs.Matrix.{Matrix, IsMatrix, row, at, table, matrix_of, added, product}
+use Rattle.m4_model.specs.Matrix.{Matrix, IsMatrix, row, at, table, added, product}
 use Rattle.m4_model.proofs.FieldLemmas.{sum_below-same}
 use Rattle.m4_model.proofs.SumLemmas.{sum_below-split}
 use Rattle.m4_model.proofs.MatrixLemmas.{at-table, length-table, length-row-table, same_table}

@@ -1,5 +1,5 @@
 -- A window to which a product over any field is added, by its bits.
-use Rattle.std.proofs.Common.{◌≡◌, ℕ, ◌*◌, ◌≤◌, refl, sym, ◌∙◌, ap, ap₂, subst}
+use Rattle.std.proofs.Common.{◌≡◌, ℕ, ◌*◌, refl, sym, ◌∙◌, ap, subst}
 use Rattle.m4_model.specs.Field.{Field, gf2, width}
 use Rattle.m4_model.specs.Matrix.{Matrix, IsMatrix, added, product}
 use Rattle.m4_mzd.specs.Window.{Window, IsWindow}

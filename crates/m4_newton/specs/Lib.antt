@@ -1,2 +1,4 @@
+pub mod Entries
 pub mod Multiples
+pub mod NjTables
 pub mod Strips

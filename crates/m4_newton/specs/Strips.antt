@@ -1,5 +1,5 @@
 -- What contracts see of the engine that multiplies strip by strip.
-use Rattle.std.specs.Prelude.{◌≡◌, ℕ, ◌*◌, ◌%◌, ◌^◌, ◌≤◌}
+use Rattle.std.specs.Prelude.{◌≡◌, ℕ, ◌*◌, ◌%◌, ◌≤◌}
 use Rattle.m4_model.specs.Field.{Field, IsCarried, width}
 use Rattle.m4_model.specs.Matrix.{Matrix}
 use Rattle.m4_mzd.specs.declared.add_mul.Shape.{Shape}

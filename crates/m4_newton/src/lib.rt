@@ -4,8 +4,10 @@
 
 mod add_mul;
 mod bits;
+mod entries;
 mod multiples;
 mod newton;
+mod nj_table;
 mod plain;
 mod strips;
 #[cfg(test)]
@@ -14,4 +16,5 @@ mod tests;
 pub use add_mul::EAddMul;
 pub use bits::OverBits;
 pub use newton::Newton;
+pub use nj_table::NjTable;
 pub use plain::EPlain;

@@ -32,7 +32,7 @@ pub(crate) fn put_multiples(m: &mut EWinMut, first: u32, b: &EWin, t: u32)
 }
 
 /// Makes row `r` of `m` `x` times row `t` of `b`. All else stays.
-fn put_multiple(m: &mut EWinMut, r: u32, b: &EWin, t: u32, x: u32)
+pub(crate) fn put_multiple(m: &mut EWinMut, r: u32, b: &EWin, t: u32, x: u32)
     requires in_rows { r < m.old.rows }
     requires in_b { t < (e_shown b.now).rows }
     requires same_cols { (e_shown b.now).cols ≡ m.old.cols }

@@ -212,7 +212,7 @@ const FIELDS: [(u32, u32); 15] = [
     (16, 0x1002b),
 ];
 
-// How many of the fields are none, or have products that don't agree.
+// A degree of a field that is none, or over which the products don't agree, or 0.
 fn wrong_fields(alloc: Global) -> Result<u32, NoMemory> {
     let mut wrong = 0;
     for case in &FIELDS {

@@ -1,9 +1,9 @@
-use Rattle.std.proofs.Common.{◌≡◌, ℕ, ◌+◌, ◌*◌, ◌^◌, ◌<◌, ◌≤◌, ◌∙◌, ap, refl, sym, subst, arith}
+use Rattle.std.proofs.Common.{◌≡◌, ℕ, ◌+◌, ◌*◌, ◌^◌, ◌<◌, ◌∙◌, ap, refl, sym, subst, arith}
 use Rattle.m4_model.specs.Field.{Field, IsCarried, width}
 use Rattle.m4_model.specs.Matrix.{row}
 use Rattle.m4_field.specs.Fields.{the_field}
 use Rattle.m4_field.proofs.WidthLemmas.{width_facts}
-use Rattle.m4_mzed.specs.EWindow.{EWindow, content, showing}
+use Rattle.m4_mzed.specs.EWindow.{EWindow, content}
 use Rattle.m4_mzed.specs.ESeen.{e_shown}
 use Rattle.m4_mzed.specs.Rows.{multiples}
 use Rattle.m4_newton.specs.Multiples.{HasMultiples}

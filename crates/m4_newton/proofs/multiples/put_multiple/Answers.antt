@@ -1,4 +1,4 @@
-use Rattle.std.proofs.Common.{◌∙◌, ap, arith, sym, length}
+use Rattle.std.proofs.Common.{◌∙◌, ap}
 use Rattle.std.proofs.lemmas.List.{length-map}
 use Rattle.m4_model.specs.Field.{Field, mul}
 use Rattle.m4_model.specs.Matrix.{row, with_row}

@@ -1,4 +1,4 @@
-use Rattle.std.proofs.Common.{◌≡◌, ◌*◌, ◌^◌, ◌%◌, ◌∙◌, ap, refl, sym, arith}
+use Rattle.std.proofs.Common.{◌≡◌, ◌∙◌, ap, refl, sym, arith}
 use Rattle.m4_model.specs.Field.{Field}
 use Rattle.m4_mzed.specs.EWindow.{EWindow}
 use Rattle.m4_mzed.specs.ESeen.{e_shown}

@@ -1,13 +1,9 @@
-use Rattle.std.proofs.Common.{◌≡◌, ℕ, refl, sym, subst, ap, ap₂, ◌∙◌, arith}
+use Rattle.std.proofs.Common.{ℕ, refl, sym, subst, ap₂, ◌∙◌}
 use Rattle.m4_model.specs.Field.{Field}
-use Rattle.m4_model.specs.Matrix.{Matrix, added, product}
-use Rattle.m4_field.specs.Fields.{the_field}
 use Rattle.m4_mzd.specs.Seen.{shown}
-use Rattle.m4_mzd.specs.Window.{Window}
-use Rattle.m4_mzed.specs.EWindow.{EWindow, content, showing}
 use Rattle.m4_mzed.specs.ESeen.{e_shown}
 use Rattle.m4_mzed.specs.Packed.{elements, IsPacked}
-use Rattle.m4_newton.proofs.WindowLemmas.{IsBits, IsBitsOf, same_bits_of, sum_packed, sum_shows}
+use Rattle.m4_newton.proofs.WindowLemmas.{same_bits_of, sum_packed, sum_shows}
 use Rattle.m4_newton.proofs.strips.add_by_bits.Goals as goal
 
 pub of_packed-requires : goal.of_packed-requires

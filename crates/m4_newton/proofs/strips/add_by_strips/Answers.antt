@@ -1,12 +1,10 @@
-use Rattle.std.proofs.Common.{◌≡◌, ℕ, ◌+◌, ◌*◌, ◌/◌, ◌%◌, ◌≤◌, refl, sym, subst, ap, ap₂, ◌∙◌, arith}
-use Rattle.m4_model.specs.Field.{Field, IsCarried, width}
+use Rattle.std.proofs.Common.{◌≡◌, ℕ, ◌*◌, ◌/◌, ◌≤◌, refl, sym, subst, ap, ◌∙◌, arith}
+use Rattle.m4_model.specs.Field.{width}
 use Rattle.m4_model.specs.Matrix.{Matrix}
 use Rattle.m4_field.specs.Fields.{the_field}
 use Rattle.m4_field.proofs.WidthLemmas.{width_facts}
-use Rattle.m4_mzed.specs.EWindow.{EWindow}
 use Rattle.m4_mzed.specs.ESeen.{e_shown}
-use Rattle.m4_newton.specs.Strips.{strips_of}
-use Rattle.m4_newton.proofs.StripLemmas.{IsLeft, all_left, less_left, none_left, whole_strip, strips_fit, some_strip}
+use Rattle.m4_newton.proofs.StripLemmas.{all_left, less_left, none_left, whole_strip, some_strip}
 use Rattle.m4_newton.proofs.strips.add_by_strips.Goals as goal
 
 pub loop-left-init : goal.loop-left-init

@@ -1,9 +1,6 @@
-use Rattle.std.proofs.Common.{◌≡◌, ◌*◌, ap, ◌∙◌}
+use Rattle.std.proofs.Common.{◌*◌, ap}
 use Rattle.m4_model.specs.Matrix.{Matrix}
-use Rattle.m4_model.specs.Shapes.{replace}
 use Rattle.m4_mzd.specs.declared.rect.Rect.{Rect}
-use Rattle.m4_mzed.specs.EWindow.{content}
-use Rattle.m4_mzed.specs.Taken.{IsAround, Fits}
 use Rattle.m4_newton.proofs.WindowLemmas.{still_around}
 use Rattle.m4_newton.proofs.strips.add_strip.Goals as goal
 
