@@ -4,7 +4,8 @@ use Rattle.m4_model.specs.Shapes.{beside}
 use Rattle.m4_field.specs.Fields.{the_field}
 use Rattle.m4_mzd.specs.Seen.{shown}
 use Rattle.m4_mzed.specs.ESeen.{e_shown}
-use Rattle.m4_eshape.proofs.PackedLemmas.{Holds, other_holds, other_packed, other_matrix, join_packed, join_is}
+use Rattle.m4_mzed.proofs.PackedSums.{Holds, other_holds, other_packed, other_matrix}
+use Rattle.m4_eshape.proofs.PackedLemmas.{join_packed, join_is}
 use Rattle.m4_eshape.proofs.join.eaugment.Goals as goal
 
 -- the rows of the bits are those of the elements

@@ -3,7 +3,8 @@ use Rattle.m4_model.specs.Shapes.{above}
 use Rattle.m4_field.specs.Fields.{the_field}
 use Rattle.m4_mzd.specs.Seen.{shown}
 use Rattle.m4_mzed.specs.ESeen.{e_shown}
-use Rattle.m4_eshape.proofs.PackedLemmas.{Holds, other_holds, other_packed, other_matrix, stack_packed, stack_is}
+use Rattle.m4_mzed.proofs.PackedSums.{Holds, other_holds, other_packed, other_matrix}
+use Rattle.m4_eshape.proofs.PackedLemmas.{stack_packed, stack_is}
 use Rattle.m4_eshape.proofs.join.estack.Goals as goal
 
 pub of_packed-requires : goal.of_packed-requires

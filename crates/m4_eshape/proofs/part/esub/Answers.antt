@@ -5,7 +5,8 @@ use Rattle.m4_model.specs.Shapes.{cut}
 use Rattle.m4_field.specs.Fields.{the_field}
 use Rattle.m4_mzd.specs.Seen.{shown}
 use Rattle.m4_mzed.specs.ESeen.{e_shown}
-use Rattle.m4_eshape.proofs.PackedLemmas.{Holds, other_packed, other_matrix, cut_packed, cut_is}
+use Rattle.m4_mzed.proofs.PackedSums.{Holds, other_packed, other_matrix}
+use Rattle.m4_eshape.proofs.PackedLemmas.{cut_packed, cut_is}
 use Rattle.m4_eshape.proofs.part.esub.Goals as goal
 
 pub of_packed-requires : goal.of_packed-requires

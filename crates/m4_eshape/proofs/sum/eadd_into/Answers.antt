@@ -10,7 +10,7 @@ use Rattle.m4_mzed.specs.ESeen.{e_shown}
 use Rattle.m4_mzed.specs.Owned.{e_matrix}
 use Rattle.m4_mzed.specs.Packed.{elements, IsPacked}
 use Rattle.m4_mzed.specs.PackedIn.{IsPackedIn}
-use Rattle.m4_eshape.proofs.PackedLemmas.{Holds, other_holds, other_matrix, window_sum}
+use Rattle.m4_mzed.proofs.PackedSums.{Holds, other_holds, other_matrix, window_sum}
 use Rattle.m4_eshape.proofs.sum.eadd_into.Goals as goal
 
 -- what is known of the call, over plain variables
