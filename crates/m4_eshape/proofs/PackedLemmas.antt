@@ -1,22 +1,14 @@
 -- Matrices made of parts of packed ones, by what is done with their bits.
-use Rattle.std.proofs.Common.{◌≡◌, ℕ, ◌+◌, ◌-◌, ◌*◌, ◌<◌, ◌≤◌, inl, inr, cond, nat_lt, refl, sym, ◌∙◌, ap, ap₂, subst, arith, bit_xor}
+use Rattle.std.proofs.Common.{◌≡◌, ℕ, ◌+◌, ◌-◌, ◌*◌, ◌<◌, ◌≤◌, inl, inr, cond, nat_lt, sym, ◌∙◌, ap, subst, arith}
 use Rattle.std.specs.Int.{bit_at}
-use Rattle.std.specs.Int.Bits.{xor_lt}
 use Rattle.std.proofs.lemmas.Bool.{cases_lt, lt-ltb, le-ltb, cond-true, cond-false}
 use Rattle.m4_model.specs.Field.{Field, IsElement, gf2, width}
-use Rattle.m4_model.specs.Matrix.{Matrix, IsMatrix, at, matrix_of, added}
+use Rattle.m4_model.specs.Matrix.{Matrix, IsMatrix, at, matrix_of}
 use Rattle.m4_model.specs.Shapes.{above, beside, cut}
 use Rattle.m4_model.proofs.MatrixLemmas.{at-table}
-use Rattle.m4_bits.proofs.BitsLemmas.{bit_at-xor}
-use Rattle.m4_mzd.specs.Window.{Window, IsWindow}
-use Rattle.m4_mzd.specs.Window.{content as bit_content, showing as bit_showing}
-use Rattle.m4_mzed.specs.EWindow.{content, showing}
 use Rattle.m4_mzed.specs.Owned.{e_matrix}
-use Rattle.m4_mzed.specs.Packed.{elements, IsPacked}
 use Rattle.m4_mzed.specs.PackedIn.{IsPackedIn}
 use Rattle.m4_mzed.proofs.EntryLemmas.{entry_element}
-use Rattle.m4_mzed.proofs.PartLemmas.{same_window}
-use Rattle.m4_mzed.proofs.SeenLemmas.{packed_as_matrix}
 use Rattle.m4_mzed.proofs.PackedSums.{Holds, next_le}
 use Rattle.m4_mzed.proofs.RectLemmas.{matrix_bit, made_packed, made_is}
 
