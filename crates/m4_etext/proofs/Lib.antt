@@ -14,3 +14,4 @@ pub mod Versions
 pub mod Readers
 pub mod HexNumbers
 pub mod WrittenRows
+pub mod Once

@@ -10,6 +10,7 @@ mod head;
 mod header;
 mod hex;
 mod kind;
+mod laws;
 mod limits;
 mod number_line;
 mod opening;
@@ -22,6 +23,7 @@ mod tests;
 mod write;
 
 pub use fault::{TextFault, WriteFault};
+pub use laws::law_read_or_refused;
 pub use limits::{MOST_BYTES, MOST_COLS, MOST_ROWS, MOST_WORDS, within_limits};
 pub use number_line::write_numbers;
 pub use reader::HeadedReader;
