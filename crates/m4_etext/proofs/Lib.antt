@@ -15,3 +15,4 @@ pub mod Readers
 pub mod HexNumbers
 pub mod WrittenRows
 pub mod Once
+pub mod GoingOn

@@ -110,8 +110,14 @@ read_or_refused bytes M (BadAt place) reads (inl bad) = let (S, own) = own_text 
 read_or_refused bytes M (BadAt place) reads (inr bad) =
     let (S, own) = own_text bytes M reads in
     let same = same_sizes bytes S bad.spelling M.rows M.cols bad.rows bad.cols own.begins bad.begins in
-    bad.none (M, reads.accepted.matrix, own.field ∙ ap field_of same.spelling, same.rows, same.cols,
-    own.spelled ∙ ap (λ S. header S M.rows M.cols ++ flat_map (line S) M.entries) same.spelling)
+    bad.none (
+      M,
+      reads.accepted.matrix,
+      own.field ∙ ap field_of same.spelling,
+      same.rows,
+      same.cols,
+      own.spelled ∙ ap (λ S. header S M.rows M.cols ++ flat_map (line S) M.entries) same.spelling,
+    )
 read_or_refused bytes M (BadDegreeAt place) reads bad =
     let (S, own) = own_text bytes M reads in
     let same = same_sizes bytes S (Elements bad.field) M.rows M.cols bad.rows bad.cols own.begins bad.begins in

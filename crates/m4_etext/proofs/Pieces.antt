@@ -119,7 +119,7 @@ length-so_far S A r t body far =
     omega (arith, ap length far.spelled, length-append (flat_map (line S) rows) (take t (glyphs S es)), last, before')
 
 -- the lines of the matrix go on with the body so far
-body_begins : (S : Spelling) (A : Matrix) (r t : ℕ) (body : List ℕ) → BodySoFar S A r t body → (rest : List ℕ) × (flat_map (line S) A.entries ≡ body ++ rest)
+pub body_begins : (S : Spelling) (A : Matrix) (r t : ℕ) (body : List ℕ) → BodySoFar S A r t body → (rest : List ℕ) × (flat_map (line S) A.entries ≡ body ++ rest)
 body_begins S A r t body far =
     elim (cases_lt r A.rows) [
       | inr past ↦ ([], sym (append-nil body ∙ body_whole S A r t body (omega (arith, far.in_rows)) far))

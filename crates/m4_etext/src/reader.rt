@@ -6,7 +6,7 @@ ghost use Rattle.m4_etext.specs.Place.{IsHeaderOf};
 ghost use Rattle.m4_etext.specs.Parsed.{spelling_of};
 ghost use Rattle.m4_etext.specs.Pieces.{StandsForLines};
 ghost use Rattle.m4_etext.specs.Standing.{IsFaultOf, IsFaultOfAll};
-ghost use Rattle.m4_etext.specs.Reading.{StandsFor, HasMatrix, IsUntold};
+ghost use Rattle.m4_etext.specs.Reading.{StandsFor, HasMatrix, IsUntold, GoesOn};
 ghost use Rattle.m4_etext.specs.declared.fault.TextFault.{TextFault};
 
 use crate::base::base_of;
@@ -66,6 +66,7 @@ impl HeadedReader {
         ensures stands { (bytes : List ℕ) → StandsFor self.old bytes → StandsFor self.new (bytes ++ piece.now) }
         ensures err { IfErr result (λ fault. (bytes : List ℕ) → StandsFor self.old bytes → IsFaultOfAll (bytes ++ piece.now) fault) }
         ensures quiet { OnOk result (IsUntold self.new) }
+        ensures ok { OnOk result ((bytes : List ℕ) → StandsFor self.new bytes → GoesOn self.new bytes) }
         ensures kept { IfErr result (λ fault. self.new ≡ State.Told fault) }
         ensures told { (fault : TextFault) → self.old ≡ State.Told fault → result ≡ Err fault }
         ensures memory { HasMatrix self.old → result ≡ Err TextFault.NoMemory → ⊥ }

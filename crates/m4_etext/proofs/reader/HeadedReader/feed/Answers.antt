@@ -9,6 +9,7 @@ use Rattle.m4_etext.specs.Reading.{StandsFor}
 use Rattle.m4_etext.specs.declared.reader.State.{State}
 use Rattle.m4_etext.proofs.Readers.{told_more, head_wrong, header_len, split_fed}
 use Rattle.m4_etext.specs.declared.reader.State.TheVariants.{AtHead, AtLines}
+use Rattle.m4_etext.proofs.GoingOn.{goes_on}
 use Rattle.m4_etext.proofs.reader.HeadedReader.feed.Goals as goal
 
 pub begin-requires : goal.begin-requires
@@ -74,3 +75,12 @@ returns-in-Err-begin-clause-err c = λ bytes stands more.
     subst (λ (l : List ℕ). IsFaultOf (l ++ more) c.in-Err-begin.fault)
     (ap (λ l. (seen ++ take end piece) ++ l) (take_rest piece end) ∙ split_fed seen bytes piece end same)
     (c.in-Err-begin.ensures.err (seen ++ take end piece) whole.1 whole.2 more)
+
+pub returns-in-Ok-clause-ok : goal.returns-in-Ok-clause-ok
+returns-in-Ok-clause-ok c = λ bytes stands. goes_on (AtLines c.feed.new.self) bytes tt stands
+
+pub returns-in-Short-clause-ok : goal.returns-in-Short-clause-ok
+returns-in-Short-clause-ok c = λ bytes stands. goes_on (AtHead c.feed-in-AtHead.new.self) bytes tt stands
+
+pub returns-in-Ok-begin-clause-ok : goal.returns-in-Ok-begin-clause-ok
+returns-in-Ok-begin-clause-ok c = λ bytes stands. goes_on (AtLines c.in-Ok-begin.lines) bytes tt stands
