@@ -1,8 +1,8 @@
 -- Digits of rows over GF(2), read up to a word at once.
-use Rattle.std.proofs.Common.{◌≡◌, ℕ, zero, suc, ◌+◌, ◌-◌, ◌*◌, ◌/◌, ◌%◌, ◌^◌, ◌<◌, ◌≤◌, ◌==◌, false, cond, nat_eq, List, [], ◌∷◌, ◌++◌, map, length, get_or, set, take, drop, refl, sym, ◌∙◌, ap, ap₂, subst, arith, ◌⊎◌, inl, inr, take-add, get_or-take, get_or-drop, length-drop, ext_get_or, mod-eq_of_lt, lit<, lit≤}
+use Rattle.std.proofs.Common.{◌≡◌, ℕ, zero, suc, ◌+◌, ◌-◌, ◌*◌, ◌/◌, ◌%◌, ◌^◌, ◌<◌, ◌≤◌, false, cond, nat_eq, List, [], ◌++◌, length, get_or, take, drop, refl, sym, ◌∙◌, ap, ap₂, subst, arith, ◌⊎◌, inl, inr, take-add, get_or-take, get_or-drop, length-drop, ext_get_or, mod-eq_of_lt, lit<}
 use Rattle.std.specs.Int.{bit_at}
 use Rattle.std.specs.Fmt.{digit_glyph}
-use Rattle.std.proofs.Math.Nat.{div-div-eq-div-mul, add-mul-div_right, mul-add-mod_self_right, mul-le-mul_right}
+use Rattle.std.proofs.Math.Nat.{div-div-eq-div-mul, add-mul-div_right, mul-le-mul_right}
 use Rattle.std.proofs.Math.Pow.{pow_mono}
 use Rattle.std.proofs.lemmas.Nat.{pow-add, div-mul-add, pow_pos}
 use Rattle.std.proofs.lemmas.Nat.Bits.{bit_at-lt, bit_at_above, bit_at_cat_low, bit_at_cat_high}
@@ -11,7 +11,7 @@ use Rattle.std.proofs.lemmas.List.{length-map, get_or-map, length-take-le, get_o
 use Rattle.std.proofs.lemmas.List.FromFn.{length-map-range_with_len, get_or-map-range_with_len}
 use Rattle.m4_model.specs.Field.{gf2}
 use Rattle.m4_model.specs.Matrix.{Matrix, row, with_row}
-use Rattle.m4_model.specs.Headed.{Spelling, Bits, Fours, row_digits, digit_of_four, field_of}
+use Rattle.m4_model.specs.Headed.{Spelling, Bits, Fours, row_digits, digit_of_four}
 use Rattle.m4_bits.specs.Digits.{digits_of}
 use Rattle.m4_mzd.specs.Rows.{with_word}
 use Rattle.m4_etext.specs.Place.{IsValue}

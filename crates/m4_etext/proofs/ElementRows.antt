@@ -1,15 +1,15 @@
 -- Elements of an extension field, read digit by digit.
-use Rattle.std.proofs.Common.{◌≡◌, ℕ, zero, suc, ◌+◌, ◌-◌, ◌*◌, ◌/◌, ◌%◌, ◌^◌, ◌<◌, ◌≤◌, false, List, [], ◌∷◌, length, get_or, set, refl, sym, ◌∙◌, ap, ap₂, subst, arith, inl, inr, get_or-set_same, get_or-set_other, lit<}
+use Rattle.std.proofs.Common.{◌≡◌, ℕ, suc, ◌+◌, ◌-◌, ◌*◌, ◌/◌, ◌%◌, ◌^◌, ◌<◌, ◌≤◌, false, List, [], length, get_or, set, refl, sym, ◌∙◌, ap, ap₂, subst, arith, inl, inr, get_or-set_same, get_or-set_other}
 use Rattle.std.specs.Fmt.{digit_glyph}
 use Rattle.std.proofs.Math.Nat.{div-div-eq-div-mul, div-lt_iff_lt-mul, mul-div_cancel, mul-le-mul_right}
 use Rattle.std.proofs.lemmas.Nat.{pow-add, pow_pos, div-add-mod'}
 use Rattle.std.proofs.lemmas.Bool.{cases_eq, cases_lt}
 use Rattle.std.proofs.lemmas.List.{length-set}
-use Rattle.m4_model.specs.Field.{Field, IsElement}
-use Rattle.m4_model.specs.Matrix.{Matrix, IsMatrix, row, at, with_entry}
+use Rattle.m4_model.specs.Field.{Field}
+use Rattle.m4_model.specs.Matrix.{Matrix, IsMatrix, at, with_entry}
 use Rattle.m4_model.specs.Headed.{Elements, row_digits, digits_per_element}
 use Rattle.m4_etext.specs.Place.{IsValue}
-use Rattle.m4_etext.specs.Pieces.{digits_in, IsRow, MayStand, ReadsDigits}
+use Rattle.m4_etext.specs.Pieces.{MayStand, ReadsDigits}
 use Rattle.m4_etext.proofs.RowDigits.{get_or-elements}
 use Rattle.m4_etext.proofs.Rows.{row_is}
 use Rattle.m4_etext.proofs.BitRows.{front_many, pow_four}

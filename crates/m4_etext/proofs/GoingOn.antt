@@ -1,10 +1,10 @@
 -- A headed text that may go on.
-use Rattle.std.proofs.Common.{◌≡◌, ℕ, ◌+◌, ◌*◌, ◌/◌, ◌<◌, ◌≤◌, ◌^◌, List, [], ◌∷◌, ◌++◌, length, take, flat_map, refl, sym, ◌∙◌, ap, ap₂, subst, subst₂, arith, ◌⊎◌, inl, inr, append_assoc, append-nil, length-append, take_all, lit≤}
+use Rattle.std.proofs.Common.{◌≡◌, ℕ, ◌+◌, ◌*◌, ◌<◌, ◌≤◌, ◌^◌, List, [], ◌++◌, length, take, flat_map, refl, sym, ◌∙◌, ap, ap₂, subst, arith, inl, inr, append_assoc, append-nil, length-append, take_all}
 use Rattle.std.proofs.lemmas.List.{nil_from_length}
 use Rattle.std.proofs.lemmas.Bool.{cases_lt}
 use Rattle.std.proofs.Math.Nat.{mul-le-mul_left}
-use Rattle.m4_model.specs.Field.{Field, width, IsField}
-use Rattle.m4_model.specs.Matrix.{Matrix, IsMatrix, zero_matrix}
+use Rattle.m4_model.specs.Field.{width, IsField}
+use Rattle.m4_model.specs.Matrix.{zero_matrix}
 use Rattle.m4_model.specs.Text.{IsWithinLimits, words_per_row}
 use Rattle.m4_model.specs.Headed.{Spelling, Bits, Fours, Elements, IsHeader, HasHeader, HasField, IsTextOf, Reads, Refusal, Fault, BadAt, BadDegreeAt, ReducibleAt, PastLimit, AreHeaderNumbers, field_of, header, line, text_in, digits_per_element}
 use Rattle.m4_model.proofs.FieldLemmas.{gf2_field}
@@ -13,7 +13,7 @@ use Rattle.m4_field.proofs.WidthLemmas.{width_is}
 use Rattle.m4_etext.specs.Place.{GoesWrong}
 use Rattle.m4_etext.specs.Heads.{BeginsHeader}
 use Rattle.m4_etext.specs.Pieces.{Kept, StandsForLines, digits_in}
-use Rattle.m4_etext.specs.Reading.{StandsFor, HasMatrix, IsUntold, GoesOn}
+use Rattle.m4_etext.specs.Reading.{StandsFor, IsUntold, GoesOn}
 use Rattle.m4_etext.specs.declared.reader.State.{State}
 use Rattle.m4_etext.specs.declared.reader.State.TheVariants.{AtHead, AtLines, Told}
 use Rattle.m4_etext.proofs.Fronts.{no_front}

@@ -1,10 +1,9 @@
 -- Header lines by their parts, and where bytes go wrong in one.
-use Rattle.std.proofs.Common.{◌≡◌, ℕ, zero, suc, ◌+◌, ◌-◌, ◌*◌, ◌^◌, ◌<◌, ◌≤◌, false, List, [], ◌∷◌, ◌++◌, length, get_or, take, drop, codes, decimal, refl, sym, ◌∙◌, ap, ap₂, subst, arith, ◌⊎◌, inl, inr, append_assoc, append-nil, length-append, length-take, length-take-le, take-append-drop, get_or-take, lit<, lit≤, take_all}
-use Rattle.std.proofs.lemmas.List.{get_or_append_left, nil_from_length, take_at}
+use Rattle.std.proofs.Common.{◌≡◌, ℕ, zero, suc, ◌+◌, ◌*◌, ◌^◌, ◌<◌, ◌≤◌, List, [], ◌∷◌, ◌++◌, length, get_or, take, drop, codes, decimal, refl, sym, ◌∙◌, ap, ap₂, subst, arith, ◌⊎◌, inl, inr, append_assoc, length-append, length-take, length-take-le, take-append-drop, get_or-take, lit<, lit≤}
+use Rattle.std.proofs.lemmas.List.{get_or_append_left, nil_from_length}
 use Rattle.std.proofs.lemmas.Bool.{cases_lt}
 use Rattle.m4_model.specs.Field.{Field}
-use Rattle.m4_model.specs.Text.{Begins}
-use Rattle.m4_model.specs.Headed.{Spelling, Bits, Fours, Elements, IsSpelling, IsHeader, AreHeaderNumbers, header, opening, hexadecimal}
+use Rattle.m4_model.specs.Headed.{Spelling, Bits, Fours, Elements, IsSpelling, IsHeader, header, opening, hexadecimal}
 use Rattle.m4_etext.specs.declared.radix.Radix.{Radix}
 use Rattle.m4_etext.specs.declared.radix.Radix.TheVariants.{Decimal, Hexadecimal}
 use Rattle.m4_etext.specs.declared.opening.Letters.{Letters}

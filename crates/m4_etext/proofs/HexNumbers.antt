@@ -1,6 +1,6 @@
 -- Numbers in hexadecimal, written from their last digit on.
-use Rattle.std.proofs.Common.{◌≡◌, ℕ, zero, suc, ◌+◌, ◌-◌, ◌*◌, ◌/◌, ◌%◌, ◌^◌, ◌<◌, ◌≤◌, false, cond, List, [], ◌∷◌, ◌++◌, length, get_or, set, take, drop, refl, sym, ◌∙◌, ap, ap₂, subst, arith, inl, inr, append_assoc, mod-eq_of_lt}
-use Rattle.std.specs.Fmt.{digits, digit_glyph}
+use Rattle.std.proofs.Common.{◌≡◌, ℕ, zero, suc, ◌+◌, ◌-◌, ◌/◌, ◌%◌, ◌^◌, ◌<◌, false, List, [], ◌∷◌, ◌++◌, length, set, drop, refl, sym, ◌∙◌, ap, subst, arith, inl, inr, append_assoc, mod-eq_of_lt}
+use Rattle.std.specs.Fmt.{digit_glyph}
 use Rattle.std.proofs.lemmas.Bool.{cases_lt}
 use Rattle.m4_model.specs.Headed.{hexadecimal}
 use Rattle.m4_etext.proofs.Numerals.{sixteen, numeral_digit, numeral_step, widen}

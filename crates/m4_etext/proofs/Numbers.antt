@@ -1,10 +1,10 @@
 -- Numbers of a header with the byte that ends them, and where bytes go wrong in one.
-use Rattle.std.proofs.Common.{◌≡◌, ℕ, suc, ◌+◌, ◌-◌, ◌*◌, ◌^◌, ◌<◌, ◌≤◌, false, List, [], ◌∷◌, ◌++◌, length, get_or, take, refl, sym, ◌∙◌, ap, ap₂, subst, arith, ◌⊎◌, inl, inr, append_assoc, length-append, length-take, lit<}
+use Rattle.std.proofs.Common.{◌≡◌, ℕ, ◌+◌, ◌*◌, ◌^◌, ◌<◌, ◌≤◌, false, List, [], ◌∷◌, ◌++◌, length, get_or, take, refl, sym, ◌∙◌, ap, subst, arith, ◌⊎◌, inl, inr, append_assoc, length-append, length-take, lit<}
 use Rattle.std.specs.Fmt.{digits, digit_glyph}
 use Rattle.std.proofs.lemmas.List.{take_more, get_or_append_left}
 use Rattle.std.proofs.lemmas.Bool.{cases_lt}
 use Rattle.m4_model.specs.Text.{Begins}
-use Rattle.m4_etext.specs.Place.{GoesWrong, IsNumber, IsNext, IsDigitIn, Lengthens, IsLeadingNumber}
+use Rattle.m4_etext.specs.Place.{GoesWrong, IsNumber, IsNext, IsDigitIn, IsLeadingNumber}
 use Rattle.m4_etext.proofs.Fronts.{IsPrefixFree, IsLongest-from_next}
 use Rattle.m4_etext.proofs.Numerals.{IsBase, AreDigits, AreDigits-numeral, numeral_some, first_numeral, numeral_digit, numeral_more, length-numeral, glyph_low, widen}
 

@@ -1,8 +1,8 @@
 -- A header line tells its numbers, and no text is both read and refused.
-use Rattle.std.proofs.Common.{◌≡◌, ℕ, ◌+◌, ◌<◌, ◌≤◌, ◌^◌, false, List, [], ◌∷◌, ◌++◌, length, get_or, take, drop, flat_map, codes, decimal, refl, sym, ◌∙◌, ap, ap₂, subst, subst₂, arith, ◌⊎◌, inl, inr, append_assoc, append-nil, length-append, lit<, lit≤}
-use Rattle.std.proofs.lemmas.List.{append_cancel_left, append_cancel_right, get_or_append_left}
+use Rattle.std.proofs.Common.{◌≡◌, ℕ, ◌+◌, ◌<◌, ◌≤◌, ◌^◌, false, List, [], ◌∷◌, ◌++◌, get_or, flat_map, codes, decimal, refl, sym, ◌∙◌, ap, ap₂, subst, subst₂, arith, inl, inr, lit≤}
+use Rattle.std.proofs.lemmas.List.{append_cancel_left, append_cancel_right}
 use Rattle.std.specs.Fmt.{digits}
-use Rattle.m4_model.specs.Field.{Field, width, IsField, IsExtension, gf2}
+use Rattle.m4_model.specs.Field.{Field, width, IsField, IsExtension}
 use Rattle.m4_model.specs.Matrix.{Matrix}
 use Rattle.m4_model.specs.Text.{IsWithinLimits}
 use Rattle.m4_model.specs.Headed.{Spelling, Bits, Fours, Elements, IsSpelling, AreHeaderNumbers, HasHeader, HasField, IsHeader, Reads, Refusal, Fault, BadAt, BadDegreeAt, ReducibleAt, PastLimit, field_of, opening, header, line, hexadecimal, first_version, second_version}

@@ -1,5 +1,5 @@
 -- Two numbers behind an opening: where bytes go wrong in them.
-use Rattle.std.proofs.Common.{◌≡◌, ℕ, ◌+◌, ◌-◌, ◌<◌, ◌≤◌, false, List, [], ◌∷◌, ◌++◌, length, get_or, take, drop, refl, sym, ◌∙◌, ap, ap₂, subst, subst₂, arith, append_assoc, length-append, length-take, length-drop, take-append-drop, take_at}
+use Rattle.std.proofs.Common.{◌≡◌, ℕ, ◌+◌, ◌-◌, ◌<◌, ◌≤◌, false, List, [], ◌∷◌, ◌++◌, length, take, drop, refl, sym, ◌∙◌, ap, subst₂, arith, append_assoc, length-append, length-take, length-drop, take-append-drop, take_at}
 use Rattle.std.specs.Fmt.{digits}
 use Rattle.m4_etext.specs.Place.{GoesWrong, GoesWrongFrom, IsNumber, IsDigitIn, IsNumberAt}
 use Rattle.m4_etext.proofs.Fronts.{IsPrefixFree, IsPrefixFree-joined, Joined, GoesWrong-first, GoesWrong-second}

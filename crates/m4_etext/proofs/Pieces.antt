@@ -1,16 +1,15 @@
 -- Rows that are read piece by piece.
-use Rattle.std.proofs.Common.{◌≡◌, ℕ, zero, suc, ◌+◌, ◌-◌, ◌*◌, ◌/◌, ◌%◌, ◌^◌, ◌<◌, ◌≤◌, false, List, [], ◌∷◌, ◌++◌, length, get_or, set, take, drop, map, flat_map, refl, sym, ◌∙◌, ap, ap₂, subst, subst₂, arith, ◌⊎◌, inl, inr, append_assoc, append-nil, take_all, get_or-set_same, length-append, length-drop, take-append-drop}
-use Rattle.std.proofs.lemmas.List.{length-set, take_more, take-set, flat_map_more, length-map, get_or-map, get_or_append_left, get_or-append_right, take_at, length-take-le, get_or-take, take-append-le}
+use Rattle.std.proofs.Common.{◌≡◌, ℕ, zero, suc, ◌+◌, ◌-◌, ◌*◌, ◌<◌, ◌≤◌, false, List, [], ◌∷◌, ◌++◌, length, get_or, take, drop, flat_map, refl, sym, ◌∙◌, ap, ap₂, subst, subst₂, arith, inl, inr, append_assoc, append-nil, take_all, get_or-set_same, length-append, length-drop, take-append-drop}
+use Rattle.std.proofs.lemmas.List.{take_more, take-set, flat_map_more, length-map, get_or-map, get_or_append_left, get_or-append_right, take_at, length-take-le, get_or-take}
 use Rattle.std.proofs.lemmas.List.Concat.{flat_map-append}
 use Rattle.std.proofs.lemmas.Bool.{cases_lt}
 use Rattle.std.specs.Fmt.{digit_glyph}
-use Rattle.m4_model.specs.Field.{Field, IsField, width}
-use Rattle.m4_model.specs.Matrix.{Matrix, IsMatrix, row, with_row}
+use Rattle.m4_model.specs.Field.{width}
+use Rattle.m4_model.specs.Matrix.{Matrix, IsMatrix, row}
 use Rattle.m4_model.specs.Text.{Begins, IsLongest, IsWithinLimits}
 use Rattle.std.proofs.Math.Nat.{mul-le-mul_right}
-use Rattle.m4_model.specs.Headed.{Spelling, AreHeaderNumbers, HasField, IsTextOf, IsBadBody, Refusal, BadAt, field_of, header, line, row_digits, text_in}
-use Rattle.m4_etext.specs.Place.{IsValue}
-use Rattle.m4_etext.specs.Pieces.{digits_in, MayStand, IsDigitAt, IsRow, glyphs, BodySoFar, Stops, ReadsDigits, Kept, StandsForLines}
+use Rattle.m4_model.specs.Headed.{Spelling, AreHeaderNumbers, HasField, IsTextOf, Refusal, BadAt, field_of, header, line, row_digits, text_in}
+use Rattle.m4_etext.specs.Pieces.{digits_in, IsDigitAt, IsRow, glyphs, BodySoFar, Stops, ReadsDigits, Kept, StandsForLines}
 use Rattle.m4_etext.proofs.Fronts.{IsLongest-from_next}
 use Rattle.m4_etext.proofs.RowDigits.{length-row_digits, may_stand}
 use Rattle.m4_etext.proofs.Rows.{row_is, IsMatrix-with_row}

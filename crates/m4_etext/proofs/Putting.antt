@@ -1,7 +1,6 @@
 -- The putting of bytes piece by piece.
-use Rattle.std.proofs.Common.{◌≡◌, ℕ, ◌+◌, ◌-◌, ◌*◌, ◌<◌, min, List, [], ◌++◌, length, get_or, take, drop, flat_map, length-take, length-drop, get_or-take, get_or-drop, ext_get_or, take-add, Option, Result, Ok, Err, refl, sym, ◌∙◌, ap, subst, arith, append_assoc, append-nil, take-append-drop}
-use Rattle.std.proofs.lemmas.List.{length-map, map-append, get_or-map, take_more, flat_map_more}
-use Rattle.std.proofs.lemmas.List.FromFn.{length-map-range_with_len, get_or-map-range_with_len}
+use Rattle.std.proofs.Common.{◌≡◌, ℕ, ◌+◌, ◌*◌, ◌<◌, List, [], ◌++◌, length, get_or, take, drop, flat_map, take-add, Option, Result, Ok, Err, refl, sym, ◌∙◌, ap, subst, arith, append_assoc, append-nil, take-append-drop}
+use Rattle.std.proofs.lemmas.List.{take_more, flat_map_more}
 use Rattle.std.proofs.lemmas.List.Concat.{flat_map-append}
 use Rattle.m4_io.specs.Outside.{WritesAll}
 use Rattle.m4_io.specs.declared.failed.Failed.{Failed}

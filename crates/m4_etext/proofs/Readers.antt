@@ -1,18 +1,17 @@
 -- A reader of headed text that is fed in pieces.
-use Rattle.std.proofs.Common.{◌≡◌, ℕ, ◌+◌, ◌*◌, ◌<◌, ◌≤◌, ◌^◌, List, [], ◌∷◌, ◌++◌, length, take, drop, refl, sym, ◌∙◌, ap, ap₂, subst, subst₂, arith, inl, inr, append_assoc, append-nil, length-append, take-append-drop, take_all}
+use Rattle.std.proofs.Common.{◌≡◌, ℕ, ◌<◌, ◌≤◌, List, [], ◌++◌, length, take, drop, refl, sym, ◌∙◌, ap, ap₂, subst, subst₂, arith, inl, append_assoc, append-nil, take-append-drop, take_all}
 use Rattle.m4_model.specs.Field.{Field, width}
-use Rattle.m4_model.specs.Matrix.{Matrix, IsMatrix, zero_matrix}
+use Rattle.m4_model.specs.Matrix.{Matrix, zero_matrix}
 use Rattle.m4_model.specs.Text.{IsWithinLimits}
 use Rattle.m4_model.specs.Headed.{Spelling, IsHeader, IsBadHeader, HasHeader, HasField, AreHeaderNumbers, Reads, Refusal, BadAt, PastLimit, field_of, header}
 use Rattle.m4_etext.specs.Place.{GoesWrong, IsHeaderOf}
-use Rattle.m4_etext.specs.Heads.{BeginsHeader}
 use Rattle.m4_etext.specs.Pieces.{Kept, StandsForLines}
 use Rattle.m4_etext.specs.Standing.{IsFaultOf, IsFaultOfAll}
 use Rattle.m4_etext.specs.Reading.{StandsFor}
 use Rattle.m4_etext.specs.declared.reader.State.{State}
 use Rattle.m4_etext.specs.declared.reader.State.TheVariants.{AtHead, AtLines, Told}
 use Rattle.m4_etext.specs.declared.fault.TextFault.{TextFault}
-use Rattle.m4_etext.specs.declared.fault.TextFault.TheVariants.{Bad, Limit}
+use Rattle.m4_etext.specs.declared.fault.TextFault.TheVariants.{Bad}
 use Rattle.m4_etext.proofs.Fronts.{no_front, GoesWrong-append}
 use Rattle.m4_etext.proofs.Headers.{IsPrefixFree-header}
 use Rattle.m4_etext.proofs.HeadLemmas.{length-header-le}

@@ -1,8 +1,7 @@
 -- Rows of matrices over any field.
-use Rattle.std.proofs.Common.{◌≡◌, ℕ, ◌<◌, ◌≤◌, List, [], length, get_or, set, sym, ◌∙◌, ap, subst, arith, inl, inr, get_or-set_same, get_or-set_other}
+use Rattle.std.proofs.Common.{ℕ, ◌<◌, List, [], length, get_or, set, sym, ◌∙◌, ap, subst, arith, inl, inr, get_or-set_same, get_or-set_other}
 use Rattle.std.proofs.lemmas.List.{length-set}
 use Rattle.std.proofs.lemmas.Bool.{cases_eq}
-use Rattle.m4_model.specs.Field.{IsElement}
 use Rattle.m4_model.specs.Matrix.{Matrix, IsMatrix, with_row}
 use Rattle.m4_etext.specs.Pieces.{IsRow}
 

@@ -1,8 +1,8 @@
 -- The two versions of a headed text.
-use Rattle.std.proofs.Common.{◌≡◌, ℕ, ◌<◌, ◌≤◌, List, refl, sym, ◌∙◌, ap, subst, arith, ◌⊎◌, inl, inr}
-use Rattle.std.proofs.lemmas.Bool.{cond-true, cond-false, eq-eqb, ne_eqb}
-use Rattle.m4_model.specs.Field.{Field, gf2, width, IsExtension}
-use Rattle.m4_model.specs.Matrix.{Matrix, IsMatrix}
+use Rattle.std.proofs.Common.{◌≡◌, ℕ, List, refl, sym, ◌∙◌, ap, subst, arith, ◌⊎◌, inl, inr}
+use Rattle.std.proofs.lemmas.Bool.{cond-false, ne_eqb}
+use Rattle.m4_model.specs.Field.{Field, width, IsExtension}
+use Rattle.m4_model.specs.Matrix.{Matrix}
 use Rattle.m4_model.specs.Text.{IsWithinLimits}
 use Rattle.m4_model.specs.Headed.{Spelling, Bits, Fours, Elements, Reads, HasField, field_of, text_in, headed_text, hex_text, first_version, second_version}
 use Rattle.m4_etext.specs.Pieces.{Kept, StandsForLines}

@@ -1,19 +1,18 @@
 -- The digits of rows, written group by group.
-use Rattle.std.proofs.Common.{◌≡◌, ℕ, ◌+◌, ◌-◌, ◌*◌, ◌/◌, ◌%◌, ◌^◌, ◌<◌, ◌≤◌, false, min, List, [], ◌∷◌, ◌++◌, map, length, get_or, take, drop, refl, sym, ◌∙◌, ap, ap₂, subst, arith, length-take, length-drop, get_or-take, get_or-drop, ext_get_or, lit<}
+use Rattle.std.proofs.Common.{◌≡◌, ℕ, ◌+◌, ◌-◌, ◌*◌, ◌/◌, ◌%◌, ◌^◌, ◌<◌, ◌≤◌, false, min, List, map, length, get_or, take, drop, sym, ◌∙◌, ap, ap₂, arith, length-take, length-drop, get_or-take, get_or-drop, ext_get_or}
 use Rattle.std.specs.Int.{bit_at}
-use Rattle.std.specs.List.{range_with_len}
 use Rattle.std.specs.Fmt.{digit_glyph}
 use Rattle.std.proofs.lemmas.Nat.Bits.{bit_at-lt}
 use Rattle.std.proofs.lemmas.List.{length-map, get_or-map}
 use Rattle.std.proofs.lemmas.List.FromFn.{length-map-range_with_len, get_or-map-range_with_len}
 use Rattle.std.proofs.Math.Nat.{mul-le-mul_right}
 use Rattle.m4_model.specs.Field.{Field}
-use Rattle.m4_model.specs.Headed.{Spelling, Bits, Fours, Elements, row_digits, digit_of_four, element_digits, digits_per_element}
+use Rattle.m4_model.specs.Headed.{Bits, Fours, Elements, row_digits, element_digits, digits_per_element}
 use Rattle.m4_bits.specs.Digits.{digits_of}
 use Rattle.m4_etext.specs.Pieces.{digits_in, glyphs}
 use Rattle.m4_etext.specs.Digits.{fours_of, digits_down}
 use Rattle.m4_etext.proofs.Numerals.{glyph_low}
-use Rattle.m4_etext.proofs.RowDigits.{length-row_digits, get_or-fours, get_or-flat, length-element_digits, get_or-element_digits}
+use Rattle.m4_etext.proofs.RowDigits.{length-row_digits, get_or-fours, get_or-flat, length-element_digits}
 use Rattle.m4_etext.proofs.Pieces.{length-glyphs}
 use Rattle.m4_etext.proofs.BitRows.{four_of_bits}
 

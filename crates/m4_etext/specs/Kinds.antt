@@ -1,5 +1,5 @@
 -- How the code tells the spelling of a text, beside the field of its matrix.
-use Rattle.std.specs.Prelude.{◌≡◌, ℕ, ◌+◌, ◌<◌, ◌≤◌, List, slice_index}
+use Rattle.std.specs.Prelude.{◌≡◌, ℕ, ◌+◌, ◌<◌, List, slice_index}
 use Rattle.std.specs.Int.{bit_at}
 use Rattle.m4_model.specs.Field.{Field, gf2}
 use Rattle.m4_model.specs.Matrix.{Matrix, row, with_row}

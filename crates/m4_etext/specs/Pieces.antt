@@ -4,8 +4,8 @@ use Rattle.std.specs.Fmt.{digit_glyph}
 use Rattle.m4_model.specs.Field.{Field, IsElement, width}
 use Rattle.m4_model.specs.Matrix.{Matrix, IsMatrix, row, with_row}
 use Rattle.m4_model.specs.Text.{IsWithinLimits}
-use Rattle.m4_model.specs.Headed.{Spelling, Bits, Fours, Elements, IsHeader, IsSpelling, AreHeaderNumbers, HasField, field_of, header, line, row_digits, digits_per_element}
-use Rattle.m4_etext.specs.Place.{GoesWrong, IsHeaderOf, IsValue}
+use Rattle.m4_model.specs.Headed.{Spelling, Bits, Fours, Elements, AreHeaderNumbers, HasField, field_of, header, line, row_digits, digits_per_element}
+use Rattle.m4_etext.specs.Place.{IsValue}
 
 -- How many digits the line of a row of n entries has.
 abbrev pub digits_in : Spelling → ℕ → ℕ

@@ -1,5 +1,5 @@
 -- Where bytes go wrong, told part by part.
-use Rattle.std.specs.Prelude.{◌≡◌, ℕ, ◌+◌, ◌-◌, ◌*◌, ◌^◌, ◌<◌, ◌≤◌, ◌⊎◌, false, List, [], ◌∷◌, ◌++◌, length, take, drop, slice_index}
+use Rattle.std.specs.Prelude.{◌≡◌, ℕ, ◌-◌, ◌^◌, ◌<◌, ◌≤◌, ◌⊎◌, false, List, [], ◌∷◌, ◌++◌, length, take, drop, slice_index}
 use Rattle.std.specs.Fmt.{digits, digit_glyph}
 use Rattle.m4_model.specs.Text.{IsLongest}
 use Rattle.m4_model.specs.Headed.{Spelling, IsSpelling, AreHeaderNumbers, opening, header}

@@ -1,7 +1,6 @@
 -- A reader of headed text that keeps no bytes of it behind the header line: what it keeps, and the bytes for which it stands.
-use Rattle.std.specs.Prelude.{◌≡◌, ℕ, ◌^◌, ◌≤◌, List, ◌++◌, length}
-use Rattle.m4_model.specs.Headed.{Fault, BadAt, BadDegreeAt, ReducibleAt, PastLimit, Spelling, Refusal, HasHeader}
-use Rattle.m4_field.specs.declared.field.FieldFault.{FieldFault}
+use Rattle.std.specs.Prelude.{ℕ, List, ◌++◌}
+use Rattle.m4_model.specs.Headed.{BadAt, BadDegreeAt, ReducibleAt, PastLimit, Refusal}
 use Rattle.m4_field.specs.declared.field.FieldFault.TheVariants.{BadDegree, Reducible}
 use Rattle.m4_etext.specs.declared.fault.TextFault.{TextFault}
 use Rattle.m4_etext.specs.declared.fault.TextFault.TheVariants.{Bad, Field, Limit, NoMemory}

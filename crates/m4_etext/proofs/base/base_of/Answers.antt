@@ -1,4 +1,4 @@
-use Rattle.std.proofs.Common.{◌≡◌, ℕ, List, sym, subst, IfErr}
+use Rattle.std.proofs.Common.{ℕ, List, sym, subst, IfErr}
 use Rattle.m4_model.specs.Headed.{HasHeader}
 use Rattle.m4_etext.specs.Parsed.{spelling_of}
 use Rattle.m4_etext.specs.Standing.{IsFaultOf}

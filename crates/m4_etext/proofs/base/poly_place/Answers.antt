@@ -1,4 +1,4 @@
-use Rattle.std.proofs.Common.{◌≡◌, ◌/◌, ◌%◌, ◌∷◌, [], ◌++◌, false, length, decimal, ap, sym, arith, length-append, lit<}
+use Rattle.std.proofs.Common.{◌/◌, ◌%◌, ◌∷◌, [], false, length, decimal, ap, arith, length-append}
 use Rattle.std.specs.Fmt.{digits, digit_glyph}
 use Rattle.m4_etext.proofs.Numerals.{ten, numeral_digit, numeral_step, widen}
 use Rattle.m4_etext.proofs.base.poly_place.Goals as goal

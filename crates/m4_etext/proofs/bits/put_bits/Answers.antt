@@ -1,5 +1,5 @@
-use Rattle.std.proofs.Common.{◌≡◌, ℕ, ◌*◌, ◌+◌, ◌%◌, ◌^◌, ◌<◌, ◌/◌, sym, ◌∙◌, ap, subst, arith}
-use Rattle.m4_mzed.specs.EWindow.{EWindow, content}
+use Rattle.std.proofs.Common.{◌%◌, ap, arith}
+use Rattle.m4_mzed.specs.EWindow.{content}
 use Rattle.m4_etext.proofs.Rows.{row_is}
 use Rattle.m4_etext.proofs.BitRows.{joined_small, bits_written}
 use Rattle.m4_etext.proofs.bits.put_bits.Goals as goal

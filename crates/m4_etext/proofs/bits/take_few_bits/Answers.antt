@@ -1,4 +1,3 @@
-use Rattle.std.proofs.Common.{arith}
 use Rattle.m4_mzed.specs.EWindow.{content}
 use Rattle.m4_etext.proofs.Rows.{row_is}
 use Rattle.m4_etext.proofs.BitRows.{bits_taken}

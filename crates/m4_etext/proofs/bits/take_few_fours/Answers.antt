@@ -1,6 +1,5 @@
-use Rattle.std.proofs.Common.{◌≡◌, ◌<◌, ◌≤◌, ◌^◌, ◌*◌, ◌-◌, ◌/◌, ◌%◌, ◌⊎◌, inl, inr, ℕ, sym, ap, subst, ◌∙◌, length, take, get_or, length-take-le, get_or-take, arith}
+use Rattle.std.proofs.Common.{◌≡◌, ◌<◌, ◌≤◌, ◌^◌, ◌*◌, ◌-◌, ◌⊎◌, inl, inr, sym, ap, subst, get_or, arith}
 use Rattle.m4_mzed.specs.EWindow.{content}
-use Rattle.m4_etext.specs.Place.{IsValue}
 use Rattle.m4_etext.proofs.Rows.{row_is}
 use Rattle.m4_etext.proofs.BitRows.{fours_taken, four_refused, of_front, few_fours, one_front}
 use Rattle.m4_etext.proofs.bits.take_few_fours.Goals as goal

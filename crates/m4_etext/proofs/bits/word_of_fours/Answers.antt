@@ -1,4 +1,4 @@
-use Rattle.std.proofs.Common.{◌≡◌, ◌*◌, ◌+◌, ◌^◌, ◌<◌, subst, ap, sym, arith}
+use Rattle.std.proofs.Common.{◌+◌, subst, sym, arith}
 use Rattle.m4_etext.proofs.BitRows.{IsWordOfFours, fours_more, fours_room, moved}
 use Rattle.m4_etext.proofs.bits.word_of_fours.Goals as goal
 

@@ -1,6 +1,5 @@
-use Rattle.std.proofs.Common.{◌≡◌, ◌<◌, ◌^◌, rules, arith}
+use Rattle.std.proofs.Common.{rules, arith}
 use Rattle.std.proofs.lemmas.Nat.{one_shl}
-use Rattle.m4_field.specs.Fields.{the_field}
 use Rattle.m4_etext.proofs.elements.is_element.Goals as goal
 
 pub returns : goal.returns

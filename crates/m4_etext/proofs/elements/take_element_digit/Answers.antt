@@ -1,4 +1,4 @@
-use Rattle.std.proofs.Common.{◌≡◌, ℕ, List, ◌≤◌, ◌-◌, ◌%◌, ◌/◌, ◌<◌, ◌^◌, ◌*◌, sym, ◌∙◌, ap, refl, subst, arith, length, get_or}
+use Rattle.std.proofs.Common.{◌≡◌, ℕ, List, ◌≤◌, ◌-◌, ◌%◌, ◌/◌, ◌<◌, ◌^◌, ◌*◌, sym, ◌∙◌, ap, refl, subst, length, get_or}
 use Rattle.m4_model.specs.Field.{Field}
 use Rattle.m4_model.specs.Matrix.{Matrix, IsMatrix, at, with_entry}
 use Rattle.m4_model.specs.Headed.{Elements, digits_per_element}

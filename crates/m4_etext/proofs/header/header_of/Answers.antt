@@ -1,5 +1,4 @@
-use Rattle.m4_etext.proofs.Headers.{wrong_opening, wrong_rows, wrong_cols, header_read, space_apart, line_feed_apart}
-use Rattle.m4_etext.specs.declared.radix.Radix.TheVariants.{Decimal}
+use Rattle.m4_etext.proofs.Headers.{wrong_opening, wrong_rows, wrong_cols, header_read}
 use Rattle.std.proofs.lemmas.Result.{err_from_is_err_and}
 use Rattle.m4_etext.proofs.header.header_of.Goals as goal
 

@@ -1,7 +1,5 @@
-use Rattle.std.proofs.Common.{◌≡◌, ◌<◌, ◌^◌, ◌-◌, ◌+◌, ◌/◌, ℕ, suc, zero, ◌∷◌, [], ◌++◌, drop, length, refl, sym, ap, ◌∙◌, subst, arith}
+use Rattle.std.proofs.Common.{◌≡◌, ◌-◌, ◌+◌, ◌/◌, ◌∷◌, [], ◌++◌, drop, refl, sym, ap, ◌∙◌, arith}
 use Rattle.std.proofs.lemmas.List.{length-set}
-use Rattle.m4_model.specs.Headed.{hexadecimal}
-use Rattle.m4_etext.proofs.Numerals.{sixteen}
 use Rattle.m4_etext.proofs.HexNumbers.{hex_or_none, last_digit, hex_more, some_start, fewer_start}
 use Rattle.m4_etext.proofs.hex.hex_number.Goals as goal
 

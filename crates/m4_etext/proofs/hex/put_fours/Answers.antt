@@ -1,4 +1,4 @@
-use Rattle.std.proofs.Common.{◌≡◌, ℕ, ◌<◌, ◌/◌, ◌%◌, ◌^◌, ◌*◌, ◌+◌, false, length, get_or, sym, ap, ◌∙◌, inl, inr, set, get_or-set_same, get_or-set_other, ext_get_or, arith}
+use Rattle.std.proofs.Common.{◌≡◌, ℕ, ◌<◌, ◌/◌, ◌%◌, ◌^◌, false, length, get_or, sym, ap, ◌∙◌, inl, inr, set, get_or-set_same, get_or-set_other, ext_get_or, arith}
 use Rattle.std.specs.Fmt.{digit_glyph}
 use Rattle.std.proofs.lemmas.Bool.{cases_eq}
 use Rattle.std.proofs.lemmas.List.{length-set}

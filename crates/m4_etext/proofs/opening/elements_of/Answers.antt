@@ -1,7 +1,5 @@
-use Rattle.std.proofs.Common.{arith}
 use Rattle.std.proofs.lemmas.Result.{err_from_is_err_and}
-use Rattle.m4_etext.specs.declared.radix.Radix.TheVariants.{Decimal, Hexadecimal}
-use Rattle.m4_etext.proofs.Headers.{wrong_degree, wrong_poly, elements_read, space_apart, five_long}
+use Rattle.m4_etext.proofs.Headers.{wrong_degree, wrong_poly, elements_read}
 use Rattle.m4_etext.proofs.opening.elements_of.Goals as goal
 
 pub returns-in_err-degree : goal.returns-in_err-degree

@@ -1,4 +1,4 @@
-use Rattle.std.proofs.Common.{◌≡◌, ◌≤◌, ◌<◌, ◌+◌, ◌^◌, length, take, sym, ap, ◌∙◌, subst, arith, false}
+use Rattle.std.proofs.Common.{◌≡◌, ◌<◌, ◌+◌, ◌^◌, length, take, sym, ap, ◌∙◌, subst, arith, false}
 use Rattle.std.specs.Fmt.{digits}
 use Rattle.m4_etext.specs.Parsed.{base_of, most_of}
 use Rattle.m4_etext.proofs.Numerals.{widen}

@@ -1,14 +1,12 @@
-use Rattle.std.proofs.Common.{◌≡◌, ℕ, List, ◌++◌, length, sym, subst, ap, ◌∙◌, arith}
+use Rattle.std.proofs.Common.{◌≡◌, ◌++◌, sym, subst, ap, ◌∙◌}
 use Rattle.std.proofs.lemmas.Result.{err_from_is_err_and}
 use Rattle.m4_model.specs.Field.{Field}
 use Rattle.m4_model.specs.Matrix.{Matrix}
 use Rattle.m4_model.specs.Text.{IsWithinLimits}
 use Rattle.m4_model.specs.Headed.{Spelling, HasField, field_of}
 use Rattle.m4_field.specs.Fields.{the_field}
-use Rattle.m4_etext.specs.Place.{IsHeaderOf}
-use Rattle.m4_etext.specs.Pieces.{StandsForLines}
 use Rattle.m4_etext.specs.Parsed.{spelling_of}
-use Rattle.m4_etext.specs.Kinds.{spelled_by, Suits}
+use Rattle.m4_etext.specs.Kinds.{spelled_by}
 use Rattle.m4_etext.proofs.Readers.{HasHeader-fed, begun, begun_past}
 use Rattle.m4_etext.proofs.Versions.{field_suits}
 use Rattle.m4_etext.proofs.reader.begin.Goals as goal

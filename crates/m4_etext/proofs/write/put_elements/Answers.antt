@@ -1,6 +1,5 @@
-use Rattle.std.proofs.Common.{◌≡◌, ℕ, ◌+◌, ◌*◌, ◌≤◌, [], length, take, drop, arith, take_all, ap, sym, ◌∙◌, subst, Ok}
+use Rattle.std.proofs.Common.{◌≡◌, ◌+◌, ◌*◌, ◌≤◌, length, take, drop, arith, take_all, ap, sym, ◌∙◌, subst, Ok}
 use Rattle.std.proofs.lemmas.Result.{err_from_is_err_and}
-use Rattle.m4_model.specs.Field.{Field}
 use Rattle.m4_model.specs.Matrix.{row}
 use Rattle.m4_model.specs.Headed.{Elements, digits_per_element}
 use Rattle.m4_etext.specs.Pending.{Puts}

@@ -1,9 +1,8 @@
-use Rattle.std.proofs.Common.{◌≡◌, ℕ, ◌+◌, ◌-◌, ◌*◌, ◌/◌, ◌<◌, ◌≤◌, min, length, get_or, take, drop, ◌++◌, arith, take_all, ap, sym, ◌∙◌, subst, Ok}
+use Rattle.std.proofs.Common.{◌≡◌, ℕ, ◌+◌, ◌*◌, ◌<◌, ◌≤◌, length, get_or, take, drop, arith, take_all, ap, sym, ◌∙◌, subst, Ok}
 use Rattle.std.proofs.lemmas.Result.{err_from_is_err_and}
 use Rattle.std.specs.Int.{bit_at}
 use Rattle.m4_model.specs.Matrix.{Matrix, row, at}
 use Rattle.m4_model.specs.Headed.{Fours}
-use Rattle.m4_bits.specs.Digits.{digits_of}
 use Rattle.m4_etext.specs.Digits.{fours_of}
 use Rattle.m4_etext.specs.Pending.{Puts}
 use Rattle.m4_etext.specs.Pieces.{glyphs}

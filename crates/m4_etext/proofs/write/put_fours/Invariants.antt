@@ -1,6 +1,6 @@
 use Rattle.std.proofs.Common.{◌*◌, take, Ok}
 use Rattle.m4_model.specs.Matrix.{row}
-use Rattle.m4_model.specs.Headed.{Bits, Fours, Elements, digits_per_element}
+use Rattle.m4_model.specs.Headed.{Fours}
 use Rattle.m4_etext.specs.Pending.{Puts}
 use Rattle.m4_etext.specs.Pieces.{glyphs}
 use Rattle.m4_etext.proofs.write.put_fours.Given as goal

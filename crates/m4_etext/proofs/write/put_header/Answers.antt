@@ -1,4 +1,4 @@
-use Rattle.std.proofs.Common.{◌≡◌, ◌++◌, ◌∷◌, [], ℕ, codes, decimal, append_assoc, ◌∙◌, sym, ap₂, Ok, refl}
+use Rattle.std.proofs.Common.{◌≡◌, ◌++◌, ◌∷◌, [], ℕ, decimal, append_assoc, ◌∙◌, sym, ap₂, Ok, refl}
 use Rattle.std.proofs.lemmas.Result.{err_from_is_err_and}
 use Rattle.m4_model.specs.Headed.{Spelling, header, opening}
 use Rattle.m4_field.specs.Fields.{the_field}

@@ -2,7 +2,7 @@ use Rattle.std.proofs.Common.{◌≡◌, ℕ, List, [], ◌++◌, flat_map, appe
 use Rattle.std.proofs.lemmas.Result.{err_from_is_err_and}
 use Rattle.m4_model.specs.Field.{Field}
 use Rattle.m4_model.specs.Matrix.{Matrix}
-use Rattle.m4_model.specs.Headed.{Spelling, header, line, text_in}
+use Rattle.m4_model.specs.Headed.{header, line, text_in}
 use Rattle.m4_field.specs.Fields.{the_field}
 use Rattle.m4_etext.specs.Kinds.{spelled_by}
 use Rattle.m4_etext.specs.declared.kind.Kind.{Kind}

@@ -1,4 +1,4 @@
-use Rattle.std.proofs.Common.{◌≡◌, List, ℕ, ◌++◌, length, take, drop, sym, subst, subst₂, ap, refl, arith, take_all}
+use Rattle.std.proofs.Common.{◌≡◌, List, ℕ, ◌++◌, take, drop, sym, subst, subst₂, ap, refl, arith, take_all}
 use Rattle.m4_etext.specs.Pieces.{Kept, StandsForLines, Stops, BodySoFar}
 use Rattle.m4_etext.specs.Kinds.{spelled_by}
 use Rattle.m4_model.specs.Headed.{Spelling}

@@ -1,4 +1,4 @@
-use Rattle.std.proofs.Common.{◌≡◌, ap, arith}
+use Rattle.std.proofs.Common.{ap, arith}
 use Rattle.m4_etext.specs.Pieces.{Kept}
 use Rattle.m4_etext.proofs.Pieces.{lines_short}
 use Rattle.m4_etext.proofs.fed.Lines.finish.Goals as goal

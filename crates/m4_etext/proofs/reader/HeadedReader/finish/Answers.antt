@@ -1,4 +1,4 @@
-use Rattle.std.proofs.Common.{◌≡◌, ℕ, List, length, sym, ◌∙◌, refl, ap, subst}
+use Rattle.std.proofs.Common.{ℕ, List, length, sym, ◌∙◌, ap, subst}
 use Rattle.m4_model.specs.Headed.{Reads}
 use Rattle.m4_etext.specs.Pieces.{Kept, StandsForLines}
 use Rattle.m4_etext.proofs.Readers.{told_itself, head_short, lines_read_as}
