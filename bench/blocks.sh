@@ -60,15 +60,15 @@ impl Product {
         Ok(Product { a, b, c, table })
     }
 
-    fn fits(&self) -> bool {
-        let reach = self.table.reach();
-        let rows = self.a.rows() == self.c.rows() && self.c.rows() <= reach.m;
-        let inner = self.a.cols() == self.b.rows() && self.a.cols() <= reach.l;
-        rows && inner && self.b.cols() == self.c.cols() && self.c.cols() <= reach.n
-    }
-
     fn add(&mut self) {
-        if self.fits() {
+        let reach = self.table.reach();
+        if self.a.rows() == self.c.rows()
+            && self.a.cols() == self.b.rows()
+            && self.b.cols() == self.c.cols()
+            && self.c.rows() <= reach.m
+            && self.a.cols() <= reach.l
+            && self.c.cols() <= reach.n
+        {
             let (mut all, home) = self.c.all_mut();
             self.table.addmul(&mut all, &self.a.all(), &self.b.all());
             self.c.put_all(all, home);
