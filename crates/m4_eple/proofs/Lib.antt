@@ -2,3 +2,5 @@ pub mod SwapLemmas
 pub mod StepParts
 pub mod TableLemmas
 pub mod MoveLemmas
+pub mod HalvesLemmas
+pub mod PivotLemmas

@@ -1,5 +1,5 @@
 -- Rows of which L's entries are moved, one after another.
-use Rattle.std.proofs.Common.{◌≡◌, ℕ, min, false, ◌+◌, ◌-◌, ◌<◌, ◌≤◌, ◌⊎◌, cond, inl, inr, List, length, get_or, drop, replicate, refl, sym, ◌∙◌, arith, get_or-take, get_or-drop}
+use Rattle.std.proofs.Common.{◌≡◌, ℕ, min, false, ◌+◌, ◌-◌, ◌<◌, ◌≤◌, ◌⊎◌, cond, inl, inr, List, length, get_or, drop, replicate, refl, sym, ◌∙◌, arith, get_or-take, get_or-drop, ap}
 use Rattle.std.specs.Prelude.{nat_lt, ◌&&◌}
 use Rattle.std.proofs.lemmas.Bool.{cases_lt, cond-false, cond-true, lt-ltb, le-ltb}
 use Rattle.std.proofs.lemmas.List.{length-take-le, length-drop, length-replicate, get_or-replicate, take-replicate}
@@ -9,7 +9,8 @@ use Rattle.m4_mzd.specs.Parts.{part, with_part}
 use Rattle.m4_mzd.proofs.PlaceLemmas.{length-with_part, get_or-with_part_before, get_or-with_part_within, get_or-with_part_past}
 use Rattle.m4_mzd.proofs.RowLemmas.{with_row-matrix_of}
 use Rattle.m4_eple.specs.Halves.{moved_entry, lower_moved, moved_row}
-use Rattle.m4_eple.proofs.TableLemmas.{not_both}
+use Rattle.m4_eple.proofs.TableLemmas.{not_both, both_or_not, moved_above, moved_away}
+use Rattle.m4_eple.proofs.TableLemmas as Table
 
 -- a part of a row of zeros
 pub part-zeros : (n cols : ℕ) → n ≤ cols → part 0 n (replicate cols 0) ≡ replicate n 0
@@ -133,3 +134,24 @@ module _ (r left s : ℕ) (M : Matrix) (matrix : IsMatrix M) (fits : r ≤ left)
                   ]
             ]
           ]
+
+-- where the columns stand side by side already, nothing moves
+pub moved-nothing : (r s : ℕ) (M : Matrix) → IsMatrix M → M ≡ lower_moved r r s M
+moved-nothing r s M matrix = same_matrix M.field M.rows M.cols (moved_entry r r s M) M refl refl refl matrix.height matrix.width
+    (λ i j below within. sym (elim (cases_lt i r) [
+      | inl top ↦ moved_above r r s M i j top
+      | inr bottom ↦ elim (cases_lt j r) [
+        | inl front ↦ Table.moved_front r r s M i j bottom front
+        | inr behind ↦ elim (both_or_not j i (r + s)) [
+          | inl here ↦ let place : r + (j - r) ≡ j = omega (arith, behind) in Table.moved_here r r s M i j bottom behind here.0 here.1 ∙ ap (at M i) place
+          | inr over ↦ moved_away r r s M i j bottom behind over ∙ cond-false (nat_lt (j + r) (r + i) && nat_lt j (r + s)) 0 (at M i j) (not_again i j over)
+        ]
+      ]
+    ]))
+  where
+    not_again : (i j : ℕ) → (i ≤ j) ⊎ (r + s ≤ j) → (nat_lt (j + r) (r + i) && nat_lt j (r + s)) ≡ false
+    not_again i j (inl over) = rw (le-ltb (j + r) (r + i) (omega (arith, over))) refl
+    not_again i j (inr past) = elim (cases_lt (j + r) (r + i)) [
+      | inl under ↦ rw (lt-ltb (j + r) (r + i) under, le-ltb j (r + s) past) refl
+      | inr over ↦ rw (le-ltb (j + r) (r + i) over) refl
+    ]

@@ -22,7 +22,7 @@ not_both j a b (inr past) = elim (cases_lt j a) [
   | inr over ↦ rw (le-ltb j a over) refl
 ]
 
-both_or_not : (j a b : ℕ) → ((j < a) × (j < b)) ⊎ ((a ≤ j) ⊎ (b ≤ j))
+pub both_or_not : (j a b : ℕ) → ((j < a) × (j < b)) ⊎ ((a ≤ j) ⊎ (b ≤ j))
 both_or_not j a b = elim (cases_lt j a) [
   | inl under ↦ elim (cases_lt j b) [
     | inl within ↦ inl (under, within)
@@ -61,16 +61,16 @@ module _ {F : Field} {m n : ℕ} {E : Matrix} (e : HasShape F m n E) (q : List �
 
 -- where an entry comes from
 module _ (r left s : ℕ) (M : Matrix) (i j : ℕ) where
-  moved_above : i < r → moved_entry r left s M i j ≡ at M i j
+  pub moved_above : i < r → moved_entry r left s M i j ≡ at M i j
   moved_above top = rw (lt-ltb i r top) refl
 
-  moved_front : r ≤ i → j < r → moved_entry r left s M i j ≡ at M i j
+  pub moved_front : r ≤ i → j < r → moved_entry r left s M i j ≡ at M i j
   moved_front bottom front = rw (le-ltb i r bottom, lt-ltb j r front) refl
 
-  moved_here : r ≤ i → r ≤ j → j < i → j < r + s → moved_entry r left s M i j ≡ at M i (left + (j - r))
+  pub moved_here : r ≤ i → r ≤ j → j < i → j < r + s → moved_entry r left s M i j ≡ at M i (left + (j - r))
   moved_here bottom behind under within = rw (le-ltb i r bottom, le-ltb j r behind, lt-ltb j i under, lt-ltb j (r + s) within) refl
 
-  moved_away : r ≤ i → r ≤ j → (i ≤ j) ⊎ (r + s ≤ j) → moved_entry r left s M i j ≡ cond (nat_lt (j + r) (left + i) && nat_lt j (left + s)) 0 (at M i j)
+  pub moved_away : r ≤ i → r ≤ j → (i ≤ j) ⊎ (r + s ≤ j) → moved_entry r left s M i j ≡ cond (nat_lt (j + r) (left + i) && nat_lt j (left + s)) 0 (at M i j)
   moved_away bottom behind over = rw (le-ltb i r bottom, le-ltb j r behind, not_both j i (r + s) over) refl
 
 module _ {K : Field} (r k n1 n2 : ℕ) (q1 q2 s : List ℕ) {W X R L1 L2 E1 E2 : Matrix}
@@ -128,7 +128,7 @@ module _ {K : Field} (r k n1 n2 : ℕ) (q1 q2 s : List ℕ) {W X R L1 L2 E1 E2 :
   e_zeros : HasShape K k n1 (zero_matrix E1.field (E1.rows - r) E1.cols)
   e_zeros = subst (HasShape K k n1) (λ t. zero_matrix (sym e1.over t) (sym e_rows t) (sym e1.cols t)) (HasShape-zero_matrix K k n1 (IsField-shape e1))
 
-  e_shape : HasShape K (r + k) (n1 + n2) the_echelon
+  pub e_shape : HasShape K (r + k) (n1 + n2) the_echelon
   e_shape = HasShape-quarters e_top x e_zeros e2
 
   total : length the_pivots ≡ r + length q2

@@ -1,7 +1,8 @@
 -- The right columns of a matrix whose left columns were factored.
 use Rattle.std.specs.Prelude.{◌≡◌, ℕ, ◌+◌, ◌-◌, nat_lt, ◌&&◌, if◌then◌else◌, List, replicate}
 use Rattle.m4_model.specs.Matrix.{Matrix, at, matrix_of, added, product}
-use Rattle.m4_model.specs.Shapes.{cut}
+use Rattle.m4_model.specs.Shapes.{above, cut}
+use Rattle.m4_model.specs.Step.{reordered}
 use Rattle.m4_mzd.specs.Parts.{part, with_part}
 use Rattle.m4_trsm.specs.Triangles.{unit_lower}
 
@@ -30,3 +31,7 @@ lower_moved r left s M = matrix_of M.field M.rows M.cols (moved_entry r left s M
 -- are zeros.
 abbrev pub moved_row : ℕ → ℕ → ℕ → List ℕ → List ℕ
 moved_row r left count entries = with_part (r + count) (replicate (left - r) 0) (with_part r (part left count entries) entries)
+
+-- The left columns, once the right ones are factored: their rows from row r on are in the order s.
+abbrev pub lower_exchanged : ℕ → List ℕ → Matrix → Matrix
+lower_exchanged r s W = above (cut W 0 0 r W.cols) (reordered s (cut W r 0 W.rows W.cols))

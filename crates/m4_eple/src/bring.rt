@@ -16,7 +16,7 @@ use m4_trsm::solve_lower_left;
 
 /// Brings the right columns up to the left ones, whose first `r` columns hold L: their rows are exchanged as `p` tells, the
 /// first `r` of them become the solution with L's triangle, and L's lower rows times this is added to the others.
-pub fn bring_up<M: EAddMul>(
+pub(crate) fn bring_up<M: EAddMul>(
     left: &EWin,
     right: &mut EWinMut,
     p: &[u32],

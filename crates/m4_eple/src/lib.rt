@@ -1,17 +1,21 @@
-//! The parts of a PLE by halves, over any field: the right half of the columns is brought up to the left one, and L's entries
-//! of the lower right move to their columns.
-//!
-//! With a PLE of the left half before them, and one of the lower right between them, they make a PLE of both halves.
+//! PLE factorization over any field, in place, by halves of the columns.
 //!
 //! Source: M. Albrecht, G. Bard, C. Pernet, "Efficient dense Gaussian elimination over the field with two elements" (2011),
 //! section 4; C.-P. Jeannerod, C. Pernet, A. Storjohann, "Rank-profile revealing Gaussian elimination and the CUP matrix
 //! decomposition" (2013).
 #![tactic(auto)]
 
+mod base;
 mod bring;
 mod exchanges;
+mod halves;
 mod lower;
+mod plain;
+mod raise;
+#[cfg(test)]
+mod tests;
 
-pub use bring::bring_up;
+pub use base::Base;
 pub use exchanges::swap_rows_by;
-pub use lower::move_lower;
+pub use halves::{Halving, ple_by_halves};
+pub use plain::PlainBits;

@@ -9,7 +9,7 @@ use m4_mzed::EWinMut;
 
 /// Moves, in the rows from row `r` on, the first `s` columns of the lower right's L from column `left` on to column `r` on.
 /// `spare` is a row of as many columns, which is written over.
-pub fn move_lower(a: &mut EWinMut, r: u32, left: u32, s: u32, spare: &mut EWinMut)
+pub(crate) fn move_lower(a: &mut EWinMut, r: u32, left: u32, s: u32, spare: &mut EWinMut)
     requires rank { r ≤ left }
     requires room { left + s ≤ a.old.cols }
     requires one_row { spare.old.rows ≡ 1 }
@@ -18,7 +18,11 @@ pub fn move_lower(a: &mut EWinMut, r: u32, left: u32, s: u32, spare: &mut EWinMu
     ensures moved { a.new ≡ showing a.old (lower_moved r left s (content a.old)) }
     ensures spare { spare.new ≡ showing spare.old (content spare.new) }
 {
+    let _rows = a.rows();
     let _spare = spare.rows();
+    if r == left {
+        return;
+    }
     for i in r..a.rows() {
         move_row(a, i, r, left, (i - r).min(s), spare);
     }

@@ -1,8 +1,8 @@
-use Rattle.std.proofs.Common.{◌∙◌, ℕ, refl, ap, sym, arith}
+use Rattle.std.proofs.Common.{◌∙◌, ℕ, refl, ap, sym, arith, ◌≡◌}
 use Rattle.m4_model.specs.Matrix.{row, with_row}
 use Rattle.m4_mzed.specs.EWindow.{EWindow, content, showing}
-use Rattle.m4_eple.specs.Halves.{moved_row}
-use Rattle.m4_eple.proofs.MoveLemmas.{moved_to, moved-none, moved-more, moved-all}
+use Rattle.m4_eple.specs.Halves.{moved_row, lower_moved}
+use Rattle.m4_eple.proofs.MoveLemmas.{moved-nothing, moved_to, moved-none, moved-more, moved-all}
 use Rattle.m4_eple.proofs.lower.move_lower.Goals as goal
 
 pub loop-i-init : goal.loop-i-init
@@ -46,3 +46,9 @@ returns-clause-moved c =
 
 pub returns-clause-spare : goal.returns-clause-spare
 returns-clause-spare c = c.loop-i.invariant.spare
+
+pub returns-then-r-left-clause-moved : goal.returns-then-r-left-clause-moved
+returns-then-r-left-clause-moved c =
+    let W = c.args.a.now in
+    let same : c.args.r ≡ c.args.left = c.if-r-left.true in
+    ap (showing W) (moved-nothing c.args.r c.args.s (content W) c.rows-rows.ensures.matrix ∙ ap (λ (left : ℕ). lower_moved c.args.r left c.args.s (content W)) same)

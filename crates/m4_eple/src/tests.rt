@@ -1,0 +1,122 @@
+//! PLE by halves over GF(2), multiplied out again.
+
+ghost use Rattle.std.specs.Prelude.{◌≡◌, ◌≤◌, length, IfOk};
+
+use crate::{Halving, PlainBits, ple_by_halves};
+use m4_model::NoMemory;
+use m4_mul::Plain;
+use m4_mzd::{AddMul, Mzd, mixed};
+use m4_mzed::EWinMut;
+use m4_newton::OverBits;
+use m4_ple::ple_plain;
+use std::alloc::Global;
+use std::test::Fail;
+
+/// The product of two matrices.
+fn product(alloc: Global, a: &Mzd, b: &Mzd) -> Result<Mzd, NoMemory>
+    requires inner { a.now.cols ≡ b.now.rows }
+    ensures shape { IfOk result (λ c. (c.rows ≡ a.now.rows) × (c.cols ≡ b.now.cols)) }
+{
+    let _rows = a.rows();
+    let mut c = Mzd::zeros(alloc, a.rows(), b.cols())?;
+    let (mut all, home) = c.all_mut();
+    Plain.addmul(&mut all, &a.all(), &b.all());
+    c.put_all(all, home);
+    Ok(c)
+}
+
+/// Makes zeros of the ones on the diagonal, and ones of the zeros: mixed bits alone have a rank of at most 64.
+fn flip_diagonal(m: &mut Mzd)
+    ensures rows { m.new.rows ≡ m.old.rows }
+    ensures cols { m.new.cols ≡ m.old.cols }
+{
+    for i in 0..m.rows().min(m.cols()) {
+        let bit = m.get(i, i);
+        m.put(i, i, !bit);
+    }
+}
+
+/// A matrix that looks random, of at most this rank, and of at least half of it.
+fn of_rank(alloc: Global, rows: u32, cols: u32, rank: u32) -> Result<Mzd, NoMemory>
+    requires few_rows { rows ≤ 1000 }
+    requires few_cols { cols ≤ 1000 }
+    requires few { rank ≤ 1000 }
+    ensures shape { IfOk result (λ c. (c.rows ≡ rows) × (c.cols ≡ cols)) }
+{
+    let mut a = mixed(alloc, rows, rank, 1)?;
+    let mut b = mixed(alloc, rank, cols, 2)?;
+    flip_diagonal(&mut a);
+    flip_diagonal(&mut b);
+    product(alloc, &a, &b)
+}
+
+/// Factors the matrix by halves, with products row by row.
+fn factor(alloc: Global, m: &mut Mzd, p: &mut [u32], q: &mut [u32]) -> Result<u32, NoMemory>
+    requires few_rows { m.old.rows ≤ 1000 }
+    requires few_cols { m.old.cols ≤ 1000 }
+    requires exchanges { length p.old ≡ m.old.rows }
+    requires pivots { m.old.cols ≤ length q.old }
+    ensures rows { IfOk result (λ _. m.new.rows ≡ m.old.rows) }
+    ensures cols { IfOk result (λ _. m.new.cols ≡ m.old.cols) }
+{
+    let mut row = Mzd::zeros(alloc, 1, m.cols())?;
+    let (all, home) = m.all_mut();
+    let (spare, spare_home) = row.all_mut();
+    let mut window = EWinMut::of_bits(all);
+    let mut spare = EWinMut::of_bits(spare);
+    let mut with = Halving {
+        engine: OverBits { engine: Plain },
+        base: PlainBits,
+        cutoff: 64,
+    };
+    let rank = ple_by_halves(&mut window, p, q, &mut spare, &mut with);
+    m.put_all(window.into_bits(), home);
+    row.put_all(spare.into_bits(), spare_home);
+    Ok(rank)
+}
+
+/// Whether a matrix of about this rank is factored by halves as without them: the plain elimination takes the same pivots in the
+/// same rows, so the exchanges, the pivots and the factors are the same.
+fn are_alike(alloc: Global, rows: u32, cols: u32, rank: u32) -> Result<bool, NoMemory>
+    requires few_rows { rows ≤ 1000 }
+    requires few_cols { cols ≤ 1000 }
+    requires few { rank ≤ 1000 }
+{
+    let mut halved = of_rank(alloc, rows, cols, rank)?;
+    let mut plain = of_rank(alloc, rows, cols, rank)?;
+    let mut p = vec![in alloc; 0u32; rows as usize]?;
+    let mut q = vec![in alloc; 0u32; cols as usize]?;
+    let mut plain_p = vec![in alloc; 0u32; rows as usize]?;
+    let mut plain_q = vec![in alloc; 0u32; cols as usize]?;
+    let r = factor(alloc, &mut halved, &mut p, &mut q)?;
+    let (mut all, home) = plain.all_mut();
+    let plain_r = ple_plain(&mut all, &mut plain_p, &mut plain_q);
+    plain.put_all(all, home);
+    Ok(
+        r <= rank
+            && rank <= 2 * r
+            && plain_r == r
+            && p == plain_p
+            && q == plain_q
+            && halved == plain,
+    )
+}
+
+// Rows, columns and about the rank of matrices that are factored: of nearly full rank, of fewer pivots than a half has
+// columns, with few rows, and with few columns.
+const SHAPES: [(u32, u32, u32); 5] = [
+    (150, 200, 150),
+    (200, 150, 40),
+    (200, 260, 100),
+    (20, 300, 20),
+    (300, 70, 70),
+];
+
+#[test]
+fn halves_are_factored_as_the_whole(rt: HostRuntime) -> Result<(), Fail> {
+    for (rows, cols, rank) in SHAPES {
+        assert!(rt; rows <= 1000 && cols <= 1000 && rank <= 1000);
+        assert!(rt; are_alike(rt.alloc(), rows, cols, rank)?);
+    }
+    Ok(())
+}
