@@ -8,6 +8,9 @@ pub const MOST_SIDE: u32 = 1 << 24;
 /// The most words of a scratch.
 pub const MOST_WORDS: u64 = 1 << 43;
 
+/// The most rows that are added to another in one pass.
+pub const MOST_ADDED: usize = 8;
+
 mod add_mul;
 mod columns;
 mod made_up;

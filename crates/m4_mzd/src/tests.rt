@@ -7,7 +7,7 @@ ghost use Rattle.m4_model.specs.Matrix.{zero_matrix};
 ghost use Rattle.m4_model.specs.Shapes.{replace};
 ghost use Rattle.m4_mzd.specs.Rectangles.{IsInside};
 
-use crate::{Mzd, Rect, RectFault, Steps, mixed};
+use crate::{MOST_ADDED, Mzd, Rect, RectFault, Steps, mixed};
 use m4_model::NoMemory;
 use std::alloc::Global;
 use std::marker::Brand;
@@ -162,7 +162,7 @@ fn add_first<const T: usize, L: Ledger>(
     steps: &mut Steps<L>,
 )
     requires some { 1 ≤ T }
-    requires few { T ≤ 8 }
+    requires few { T ≤ MOST_ADDED }
     requires rows { 0 < m.old.rows }
     requires same_cols { from.now.cols ≡ m.old.cols }
     requires in_from { All (λ s. s < from.now.rows) numbers.now }
@@ -184,7 +184,7 @@ fn adds_first<const T: usize, L: Ledger>(
     steps: &mut Steps<L>,
 ) -> Result<bool, NoMemory>
     requires some { 1 ≤ T }
-    requires few { T ≤ 8 }
+    requires few { T ≤ MOST_ADDED }
     requires small { All (λ s. s < 130) numbers.now }
 {
     let from = Mzd::identity(alloc, 130)?;

@@ -1,7 +1,8 @@
 //! A window for reading.
 
-ghost use Rattle.std.specs.Prelude.{◌≡◌, ◌^◌, ◌≤◌};
+ghost use Rattle.std.specs.Prelude.{◌≡◌, ◌≤◌};
 ghost use Rattle.m4_model.specs.Text.{words_per_row};
+ghost use Rattle.m4_mzd.specs.declared.TheConstants.{MOST_SIDE};
 
 use crate::MOST_SIDE;
 use crate::word::word_of;
@@ -14,8 +15,8 @@ pub struct Win<'a> {
     pub(crate) view: View<'a>,
     pub(crate) cols: u32,
     ghost wide: { view.width ≡ words_per_row cols },
-    ghost few_rows: { view.rows ≤ 2 ^ 24 },
-    ghost few_cols: { cols ≤ 2 ^ 24 },
+    ghost few_rows: { view.rows ≤ MOST_SIDE },
+    ghost few_cols: { cols ≤ MOST_SIDE },
 }
 
 impl<'a> Win<'a> {

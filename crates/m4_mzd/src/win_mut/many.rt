@@ -8,6 +8,7 @@ ghost use Rattle.m4_mzd.specs.Seen.{shown};
 ghost use Rattle.m4_mzd.specs.Rows.{rows_at, sum_of};
 
 use super::WinMut;
+use crate::MOST_ADDED;
 use crate::steps::Steps;
 use crate::win::Win;
 use m4_bits::{
@@ -26,7 +27,7 @@ macro_rules! add_in_one_pass {
 
 impl WinMut {
     /// Adds the `T` rows of `from`, a window of as many columns, that have these numbers to row `r`, in one pass over its
-    /// words, where `T` is 1 to 8. A number may stand there twice. All else stays. Takes `T` steps.
+    /// words, where `T` is 1 to `MOST_ADDED`. A number may stand there twice. All else stays. Takes `T` steps.
     #[inline]
     pub fn add_rows<const T: usize, L: Ledger>(
         &mut self,
@@ -36,7 +37,7 @@ impl WinMut {
         steps: &mut Steps<L>,
     )
         requires some { 1 ≤ T }
-        requires few { T ≤ 8 }
+        requires few { T ≤ MOST_ADDED }
         requires in_rows { r < self.old.rows }
         requires in_from { All (λ s. s < (shown from.now).rows) numbers.now }
         requires same_cols { (shown from.now).cols ≡ self.old.cols }
@@ -51,7 +52,7 @@ impl WinMut {
     #[inline(always)]
     fn add_listed<const T: usize>(&mut self, r: u32, from: &Win, numbers: &[u32; T])
         requires some { 1 ≤ T }
-        requires few { T ≤ 8 }
+        requires few { T ≤ MOST_ADDED }
         requires in_rows { r < self.old.rows }
         requires in_from { All (λ s. s < (shown from.now).rows) numbers.now }
         requires same_cols { (shown from.now).cols ≡ self.old.cols }
