@@ -1,7 +1,7 @@
 -- Words that are a job, and words that are none, with the number of the first that is refused.
 use Rattle.std.proofs.Common.{◌≡◌, ℕ, List, [], ◌∷◌, refl, Option, Some, None, Result, Ok, Err, codes}
 use Rattle.std.specs.Fmt.{digits}
-use Rattle.m4_model.specs.declared.choices.Algo.TheVariants.{Plain}
+use Rattle.m4_model.specs.declared.choices.Algo.TheVariants.{Strassen}
 use Rattle.m4_model.specs.declared.choices.Form.{Form}
 use Rattle.m4_model.specs.declared.choices.Form.TheVariants.{Headed, Bare, Jcf}
 use Rattle.m4_model.specs.declared.command.Command.{Command}
@@ -10,7 +10,7 @@ use Rattle.m4_model.specs.Words.{Job, job, understand}
 
 -- the job of a command on these files, with these forms
 asks : Command → List (List ℕ) → Option Form → Option Form → Result Job ℕ
-asks command files from into = Ok (record { command = command; files = files; choices = record { algo = None; k = None; tables = None; from = from; into = into } })
+asks command files from into = Ok (record { command = command; files = files; choices = record { algo = None; k = None; tables = None; cutoff = None; from = from; into = into } })
 
 product_of_two : job (codes "mul" ∷ codes "A" ∷ codes "B" ∷ []) ≡ asks Mul (codes "A" ∷ codes "B" ∷ []) None None
 unfolding job understand digits asks
@@ -41,14 +41,18 @@ factors_with_an_option : job (codes "pluq" ∷ codes "A" ∷ codes "--out=bare" 
 unfolding job understand digits asks
 factors_with_an_option = refl
 
-options_of_products : job (codes "mul" ∷ codes "A" ∷ codes "--algo=plain" ∷ codes "B" ∷ codes "--k=8" ∷ codes "--tables=1" ∷ [])
-    ≡ Ok (record { command = Mul; files = codes "A" ∷ codes "B" ∷ []; choices = record { algo = Some Plain; k = Some 8; tables = Some 1; from = None; into = None } })
+options_of_products : job (codes "mul" ∷ codes "A" ∷ codes "--algo=strassen" ∷ codes "B" ∷ codes "--k=8" ∷ codes "--tables=1" ∷ codes "--cutoff=65536" ∷ [])
+    ≡ Ok (record { command = Mul; files = codes "A" ∷ codes "B" ∷ []; choices = record { algo = Some Strassen; k = Some 8; tables = Some 1; cutoff = Some 65536; from = None; into = None } })
 unfolding job understand digits
 options_of_products = refl
 
 too_large_an_option : job (codes "mul" ∷ codes "--k=9" ∷ codes "A" ∷ codes "B" ∷ []) ≡ Err 2
 unfolding job understand digits
 too_large_an_option = refl
+
+too_small_an_option : job (codes "mul" ∷ codes "A" ∷ codes "--cutoff=63" ∷ codes "B" ∷ []) ≡ Err 3
+unfolding job understand digits
+too_small_an_option = refl
 
 an_option_with_leading_zero : job (codes "mul" ∷ codes "--k=08" ∷ codes "A" ∷ codes "B" ∷ []) ≡ Err 2
 unfolding job understand digits

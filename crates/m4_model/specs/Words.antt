@@ -8,8 +8,9 @@ use Rattle.m4_model.specs.declared.command.Command.TheVariants.{Mul, Addmul, Add
 use Rattle.m4_model.specs.declared.command.Kind.{Kind}
 use Rattle.m4_model.specs.declared.command.Kind.TheVariants.{FileName, Number}
 use Rattle.m4_model.specs.declared.choices.Algo.{Algo}
-use Rattle.m4_model.specs.declared.choices.Algo.TheVariants.{Plain, Table}
+use Rattle.m4_model.specs.declared.choices.Algo.TheVariants.{Plain, Table, Strassen}
 use Rattle.m4_model.specs.declared.choices.Form.{Form}
+use Rattle.m4_model.specs.declared.choices.TheConstants.{LEAST_CUTOFF, MOST_CUTOFF}
 use Rattle.m4_model.specs.declared.choices.Form.TheVariants.{Headed, Bare, Jcf}
 use Rattle.m4_model.specs.declared.choices.Choices.{Choices}
 
@@ -70,6 +71,7 @@ abbrev pub algo_named : List ℕ → Option Algo
 algo_named value =
     if bytes_eq value (codes "plain") then Some Plain
     else if bytes_eq value (codes "table") then Some Table
+    else if bytes_eq value (codes "strassen") then Some Strassen
     else None
 
 -- The form that a value names.
@@ -82,7 +84,7 @@ form_named value =
 
 -- No option is given.
 abbrev pub none_given : Choices
-none_given = record { algo = None; k = None; tables = None; from = None; into = None }
+none_given = record { algo = None; k = None; tables = None; cutoff = None; from = None; into = None }
 
 -- The form of all files that are read: headed text, if no other is chosen.
 abbrev pub form_of_files : Choices → Form
@@ -104,6 +106,7 @@ with_option name value choices =
     if bytes_eq name (codes "--algo") then option_map (λ algo. record choices { algo = Some algo }) (once choices.algo (algo_named value))
     else if bytes_eq name (codes "--k") then option_map (λ k. record choices { k = Some k }) (once choices.k (number_between 1 8 value))
     else if bytes_eq name (codes "--tables") then option_map (λ tables. record choices { tables = Some tables }) (once choices.tables (number_between 1 8 value))
+    else if bytes_eq name (codes "--cutoff") then option_map (λ cutoff. record choices { cutoff = Some cutoff }) (once choices.cutoff (number_between LEAST_CUTOFF MOST_CUTOFF value))
     else if bytes_eq name (codes "--in") then option_map (λ form. record choices { from = Some form }) (once choices.from (form_named value))
     else if bytes_eq name (codes "--out") then option_map (λ form. record choices { into = Some form }) (once choices.into (form_named value))
     else None

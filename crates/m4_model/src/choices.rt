@@ -3,6 +3,12 @@
 ghost use Rattle.std.specs.Prelude.{◌≡◌};
 ghost use Rattle.m4_model.specs.Words.{form_of_files, form_of_answer};
 
+/// The least size up to which nothing is halved.
+pub const LEAST_CUTOFF: u32 = 64;
+
+/// The greatest size up to which nothing is halved.
+pub const MOST_CUTOFF: u32 = 65_536;
+
 /// How products are computed. The answer is the same.
 #[derive(Clone, Copy, Debug, PartialEq, Eq)]
 pub enum Algo {
@@ -10,6 +16,8 @@ pub enum Algo {
     Plain,
     /// By tables of the sums of a few rows.
     Table,
+    /// By halves, with seven products of quarters in place of eight, and by tables what isn't halved.
+    Strassen,
 }
 
 /// A form of a text.
@@ -32,6 +40,8 @@ pub struct Choices {
     pub k: Option<u32>,
     /// How many tables are used at a time.
     pub tables: Option<u32>,
+    /// The size up to which nothing is halved.
+    pub cutoff: Option<u32>,
     /// The form of all files that are read.
     pub from: Option<Form>,
     /// The form of an answer that is one matrix.
@@ -44,6 +54,7 @@ impl Choices {
         algo: None,
         k: None,
         tables: None,
+        cutoff: None,
         from: None,
         into: None,
     };

@@ -14,7 +14,7 @@ mod recursion_laws;
 mod ring_laws;
 mod status;
 
-pub use choices::{Algo, Choices, Form};
+pub use choices::{Algo, Choices, Form, LEAST_CUTOFF, MOST_CUTOFF};
 pub use command::{Command, Kind};
 pub use factor_laws::{law_ple, law_ple_step};
 pub use field_laws::law_field;

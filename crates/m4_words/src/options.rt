@@ -5,7 +5,7 @@ ghost use Rattle.m4_model.specs.Words.{algo_named, form_named, once, with_option
 ghost use Rattle.m4_words.specs.Small.{AreSmall};
 
 use crate::number::number_between;
-use m4_model::{Algo, Choices, Form};
+use m4_model::{Algo, Choices, Form, LEAST_CUTOFF, MOST_CUTOFF};
 
 /// The choices with one more option, of this name and this value. There is none of another name, with another value, or
 /// of a name that was given before.
@@ -25,6 +25,10 @@ pub(crate) fn with_option(choices: Choices, name: &str, value: &str) -> Option<C
         }),
         "--tables" => Some(Choices {
             tables: Some(once(choices.tables, number_between(1, 8, value))?),
+            ..choices
+        }),
+        "--cutoff" => Some(Choices {
+            cutoff: Some(once(choices.cutoff, number_between(LEAST_CUTOFF, MOST_CUTOFF, value))?),
             ..choices
         }),
         "--in" => Some(Choices {
@@ -56,6 +60,7 @@ fn algo_named(value: &str) -> Option<Algo>
     match value {
         "plain" => Some(Algo::Plain),
         "table" => Some(Algo::Table),
+        "strassen" => Some(Algo::Strassen),
         _ => None,
     }
 }
