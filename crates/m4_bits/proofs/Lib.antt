@@ -1,6 +1,7 @@
 pub mod BitsLemmas
 pub mod SumLemmas
 pub mod OverlaidLemmas
+pub mod SetSumLemmas
 pub mod ProductLemmas
 pub mod ColumnLemmas
 pub mod DigitsLemmas

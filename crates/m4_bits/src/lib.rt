@@ -20,7 +20,7 @@ mod transpose;
 pub use digits::{put_digits, word_of_digits};
 pub use products::add_products;
 pub use rows::{
-    clear, copy_into, swap_into, xor_from_column, xor_from2, xor_from3, xor_from4, xor_from5,
+    clear, copy_into, set_sum, swap_into, xor_from_column, xor_from2, xor_from3, xor_from4, xor_from5,
     xor_from6, xor_from7, xor_from8, xor_into,
 };
 pub use shift::copy_bits;
@@ -110,8 +110,9 @@ fn add_bit(row: &mut [u64], j: u32, change: u64)
 #[cfg(test)]
 mod tests {
     use super::{
-        clear, copy_into, get_bit, mask, put_bit, swap_bits, swap_into, words_for, xor_from_column,
-        xor_from2, xor_from3, xor_from4, xor_from5, xor_from6, xor_from7, xor_from8, xor_into,
+        clear, copy_into, get_bit, mask, put_bit, set_sum, swap_bits, swap_into, words_for,
+        xor_from_column, xor_from2, xor_from3, xor_from4, xor_from5, xor_from6, xor_from7, xor_from8,
+        xor_into,
     };
     use std::process::Abort;
 
@@ -222,16 +223,18 @@ mod tests {
         }
     }
 
-    /// Rows of `n` words are copied, exchanged, cleared and added from column 70 on, with 4 bits of the last word.
+    /// Rows of `n` words are copied, made of two others, exchanged, cleared and added from column 70 on, with 4 bits of the
+    /// last word.
     fn rows_are_moved<R: Abort>(rt: &R, n: usize)
         requires { n ≤ 17 }
     {
         let ones = [u64::MAX; 17];
         let (mut copied, mut cleared, mut added) = ([0; 17], ones, ones);
-        let (mut first, mut second) = ([0; 17], ones);
+        let (mut first, mut second, mut sum) = ([0; 17], ones, [0; 17]);
         let last = 15;
         copy_into(&mut copied[..n], &ones[..n], last);
         swap_into(&mut first[..n], &mut second[..n], last);
+        set_sum(&mut sum[..n], &ones[..n], &[6; 17][..n], last);
         clear(&mut cleared[..n], last);
         xor_from_column(&mut added[..n], &ones[..n], 70, last << 4);
         for k in 0..17 {
@@ -252,6 +255,7 @@ mod tests {
                 u64::MAX
             };
             assert_eq!(rt; copied[k], taken);
+            assert_eq!(rt; sum[k], if k < n { taken ^ 6 } else { 0 });
             assert_eq!(rt; cleared[k], !taken);
             assert_eq!(rt; first[k], taken);
             assert_eq!(rt; second[k], !taken);

@@ -124,6 +124,29 @@ pub fn xor_from8(
     add_rows!(dst, last, a, b, c, d, e, f, g, h);
 }
 
+/// Makes of the row `dst` the sum of two rows of as many words, in one pass. Of its last word only the bits of `last` are
+/// written.
+pub fn set_sum(dst: &mut [u64], a: &[u64], b: &[u64], last: u64)
+    requires { (length a.now ≡ length dst.old) × (length b.now ≡ length dst.old) }
+    ensures { dst.new ≡ overlaid dst.old (row_sum a.now b.now) last }
+{
+    if dst.is_empty() {
+        return;
+    }
+    let end = dst.len() - 1;
+    let before = dst[end];
+    let blocks = dst.len() / 8;
+    for block in 0..blocks {
+        let at = block * 8;
+        let sum = u64x8::from_slice(&a[at..]) ^ u64x8::from_slice(&b[at..]);
+        sum.copy_to_slice(&mut dst[at..]);
+    }
+    for k in blocks * 8..end {
+        dst[k] = a[k] ^ b[k];
+    }
+    dst[end] = merge(before, a[end] ^ b[end], last);
+}
+
 /// Adds the row `src` to the row `dst` of as many words, from column `first` on. Of the last word only the bits of
 /// `last` are added. Every bit before `first` stays, and where the rows end before `first`, every bit does.
 pub fn xor_from_column(dst: &mut [u64], src: &[u64], first: u32, last: u64)

@@ -1,12 +1,12 @@
 -- A row of a window that is written in whole words: the entries that it holds then, and what the window is.
-use Rattle.std.proofs.Common.{◌≡◌, ◌≢◌, ℕ, inl, inr, ◌+◌, ◌-◌, ◌^◌, ◌<◌, ◌≤◌, List, [], length, get_or, set, map, replicate, refl, sym, ◌∙◌, ap, subst, arith, bit_xor, ◌*◌, ◌/◌, ◌%◌}
+use Rattle.std.proofs.Common.{◌≡◌, ◌≢◌, ℕ, inl, inr, ◌+◌, ◌-◌, ◌^◌, ◌<◌, ◌≤◌, List, [], ◌∷◌, length, get_or, set, map, replicate, refl, sym, ◌∙◌, ap, subst, arith, bit_xor, ◌*◌, ◌/◌, ◌%◌}
 use Rattle.std.specs.Int.{bit_at}
 use Rattle.std.proofs.lemmas.Bool.{cases_eq, cases_lt}
 use Rattle.std.proofs.lemmas.List.{length-map, get_or-map, get_or_past, length-set, length-replicate, get_or-set_same, get_or-set_other, get_or-replicate, map-set, set-get_or}
 use Rattle.m4_model.specs.Matrix.{row, row_sum}
 use Rattle.m4_model.specs.Text.{words_per_row}
-use Rattle.m4_bits.specs.Bits.{bit, last_bits, masked, overlaid}
-use Rattle.m4_bits.proofs.BitsLemmas.{length-row_sum, get_or-row_sum, length-masked, bit-masked_below, bit-masked_past, bit-sum_masked_below, bit-sum_masked_past}
+use Rattle.m4_bits.specs.Bits.{bit, last_bits, masked, overlaid, rows_added}
+use Rattle.m4_bits.proofs.BitsLemmas.{length-row_sum, get_or-row_sum, bit-row_sum, length-masked, bit-masked_below, bit-masked_past, bit-sum_masked_below, bit-sum_masked_past}
 use Rattle.m4_bits.specs.Products.{products, row_products}
 use Rattle.m4_bits.proofs.OverlaidLemmas.{length-overlaid, bit-overlaid_below, bit-overlaid_past, bit-cleared_below, bit-cleared_past}
 use Rattle.m4_area.specs.Rectangle.{Rectangle}
@@ -197,6 +197,32 @@ wrote_copy cols last old src new xs ys mask is h g =
       };
       kept = λ j past. ap (λ l. bit l j) now ∙ bit-overlaid_past old src cols j (h.long ∙ sym g.long) g.long past;
     }
+
+-- the sum of two rows of words holds the sum of what they hold
+holds_sum : (cols : ℕ) (xs ys entries others : List ℕ) → Holds cols xs entries → Holds cols ys others → Holds cols (row_sum xs ys) (row_sum entries others)
+holds_sum cols xs ys entries others h g = record {
+  long = length-row_sum xs ys ∙ h.long;
+  entries_long = length-row_sum entries others ∙ h.entries_long;
+  bits = λ j inside.
+      get_or-row_sum entries others j (h.entries_long ∙ sym g.entries_long)
+      ∙ (λ i. bit_xor (h.bits j inside i) (g.bits j inside i))
+      ∙ sym (bit-row_sum xs ys j (h.long ∙ sym g.long));
+}
+
+-- a row that became the sum of two others
+pub wrote_sum_of_two : (cols last : ℕ) (old xs ys new old_entries entries others : List ℕ) → last ≡ 2 ^ last_bits cols - 1 → new ≡ overlaid old (row_sum xs ys) last
+    → Holds cols old old_entries → Holds cols xs entries → Holds cols ys others → Wrote cols old new (row_sum entries others)
+wrote_sum_of_two cols last old xs ys new old_entries entries others mask is held h g =
+    wrote_copy cols last old (row_sum xs ys) new old_entries (row_sum entries others) mask is held (holds_sum cols xs ys entries others h g)
+
+-- a row to which two others were added
+pub wrote_both : (cols last : ℕ) (old xs ys new own entries others : List ℕ) → last ≡ 2 ^ last_bits cols - 1 → new ≡ rows_added old (xs ∷ ys ∷ []) last
+    → Holds cols old own → Holds cols xs entries → Holds cols ys others → Wrote cols old new (row_sum (row_sum own entries) others)
+wrote_both cols last old xs ys new own entries others mask is held h g =
+    let once = row_sum old (masked xs last) in
+    let first = wrote_sum cols last old xs once own entries mask refl held h in
+    let second = wrote_sum cols last once ys new (row_sum own entries) others mask is first.holds g in
+    record { holds = second.holds; kept = λ j past. second.kept j past ∙ first.kept j past }
 
 -- a row that was cleared
 pub wrote_zeros : (cols last : ℕ) (old new xs : List ℕ) (w : Window) (v : Rectangle) → window v cols ≡ w → last ≡ 2 ^ last_bits cols - 1 → new ≡ overlaid old (replicate (length old) 0) last

@@ -10,7 +10,7 @@ ghost use Rattle.m4_mzd.specs.Rows.{sum_from};
 use super::WinMut;
 use crate::steps::Steps;
 use crate::win::Win;
-use m4_bits::{clear, copy_into, mask, swap_into, xor_from_column, xor_into};
+use m4_bits::{clear, copy_into, mask, set_sum, swap_into, xor_from_column, xor_from2, xor_into};
 use std::sync::ledger::Ledger;
 
 impl WinMut {
@@ -54,6 +54,40 @@ impl WinMut {
         let last = mask(self.cols);
         let source = from.view.row(s as usize);
         copy_into(self.words.row_mut(r as usize), source, last);
+    }
+
+    /// Makes of row `r` the sum of row `i` of `a` and row `j` of `b`, windows of as many columns, in one pass over its words.
+    /// All else stays.
+    #[inline]
+    pub fn set_sum(&mut self, r: u32, a: &Win, i: u32, b: &Win, j: u32)
+        requires in_rows { r < self.old.rows }
+        requires in_a { i < (shown a.now).rows }
+        requires in_b { j < (shown b.now).rows }
+        requires same_cols { (shown a.now).cols ≡ self.old.cols }
+        requires other_cols { (shown b.now).cols ≡ self.old.cols }
+        ensures { self.new ≡ showing self.old (with_row (content self.old) r (row_sum (row (shown a.now) i) (row (shown b.now) j))) }
+    {
+        let last = mask(self.cols);
+        let first = a.view.row(i as usize);
+        let second = b.view.row(j as usize);
+        set_sum(self.words.row_mut(r as usize), first, second, last);
+    }
+
+    /// Adds row `i` of `a` and row `j` of `b`, windows of as many columns, to row `r`, in one pass over its words. All else
+    /// stays.
+    #[inline]
+    pub fn add_both(&mut self, r: u32, a: &Win, i: u32, b: &Win, j: u32)
+        requires in_rows { r < self.old.rows }
+        requires in_a { i < (shown a.now).rows }
+        requires in_b { j < (shown b.now).rows }
+        requires same_cols { (shown a.now).cols ≡ self.old.cols }
+        requires other_cols { (shown b.now).cols ≡ self.old.cols }
+        ensures { self.new ≡ showing self.old (with_row (content self.old) r (row_sum (row_sum (row (content self.old) r) (row (shown a.now) i)) (row (shown b.now) j))) }
+    {
+        let last = mask(self.cols);
+        let first = a.view.row(i as usize);
+        let second = b.view.row(j as usize);
+        xor_from2(self.words.row_mut(r as usize), first, second, last);
     }
 
     /// Copies all rows of `from`, a window of the same shape. All else stays.
