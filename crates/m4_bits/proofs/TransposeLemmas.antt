@@ -5,7 +5,7 @@ use Rattle.std.specs.Int.Bits.{xor_assoc, xor_comm, xor_self, xor_zero_r}
 use Rattle.std.proofs.lemmas.Nat.{shr-shr, shr_split, mul-le, div-mul-add, pow_pos}
 use Rattle.std.proofs.lemmas.Nat.Bits.{bit_at_and, bit_at_cat_low, bit_at_cat_high, bit_at-lt, bit_at-zero}
 use Rattle.std.proofs.lemmas.Bool.{cases_lt, cases_eq, eqb-true, and_parts}
-use Rattle.m4_bits.specs.Transpose.{IsLowHalves, ChangePlaces, WordsChangePlaces, SquaresChangePlaces, IsTransposed}
+use Rattle.m4_bits.specs.Transpose.{IsLowHalves, ChangePlaces, WordsChangePlaces, SquaresChangePlaces, IsTransposed, AreTransposed}
 use Rattle.m4_bits.proofs.BitsLemmas.{bit_at-xor}
 
 -- ---- shifts and remainders, bit by bit
@@ -150,11 +150,11 @@ low_halves_1 = low_halves 1 0x5555_5555_5555_5555 refl refl
 
 -- ---- the steps in a row
 
--- What is reached after the steps down to squares of s x s bits, m of them side by side: each square has changed places with
--- the one over the diagonal, and is itself as it was.
-pub record SquaresTurned (m s : ℕ) (old new : List ℕ) : Type 0 where
-  pub turned : (p q i j : ℕ) → p < m → q < m → i < s → j < s
-      → bit_at (get_or new (p * s + i) 0) (q * s + j) ≡ bit_at (get_or old (q * s + i) 0) (p * s + j)
+-- What is reached after the steps down to squares of d words by s bits, m of them side by side: each square has changed places
+-- with the one over the diagonal, and is itself as it was.
+pub record SquaresTurned (m d s : ℕ) (old new : List ℕ) : Type 0 where
+  pub turned : (p q i j : ℕ) → p < m → q < m → i < d → j < s
+      → bit_at (get_or new (p * d + i) 0) (q * s + j) ≡ bit_at (get_or old (q * d + i) 0) (p * s + j)
 
 -- one bit of a block at two names of its place
 same_place : (block : List ℕ) {i k j l : ℕ} → i ≡ k → j ≡ l → bit_at (get_or block i 0) j ≡ bit_at (get_or block k 0) l
@@ -163,62 +163,99 @@ same_place block {i} {k} {j} {l} rows columns = ap (λ x. bit_at (get_or block x
 even_or_odd : (p : ℕ) → ((g : ℕ) × (p ≡ g * 2)) ⊎ ((g : ℕ) × (p ≡ g * 2 + 1))
 even_or_odd p = elim (cases_lt (p % 2) 1) [ inl even ↦ inl (p / 2, omega arith) | inr odd ↦ inr (p / 2, omega arith) ]
 
-module _ (s : ℕ) (old mid new : List ℕ) (before : SquaresTurned (32 / s) (2 * s) old mid) (step : SquaresChangePlaces s mid new)
-    (g h i j : ℕ) (in_g : g < 32 / s) (in_h : h < 32 / s) (in_i : i < s) (in_j : j < s) where
-  even_even : bit_at (get_or new (g * 2 * s + i) 0) (h * 2 * s + j) ≡ bit_at (get_or old (h * 2 * s + i) 0) (g * 2 * s + j)
+module _ (d s : ℕ) (old mid new : List ℕ) (before : SquaresTurned (32 / s) (2 * d) (2 * s) old mid) (step : SquaresChangePlaces d s mid new)
+    (g h i j : ℕ) (in_g : g < 32 / s) (in_h : h < 32 / s) (in_i : i < d) (in_j : j < s) where
+  even_even : bit_at (get_or new (g * 2 * d + i) 0) (h * 2 * s + j) ≡ bit_at (get_or old (h * 2 * d + i) 0) (g * 2 * s + j)
   even_even =
       same_place new (omega arith) (omega arith) ∙ (step g i in_g in_i h j in_h in_j).0
       ∙ before.turned g h i j in_g in_h (omega arith) (omega arith) ∙ same_place old (omega arith) (omega arith)
 
-  even_odd : bit_at (get_or new (g * 2 * s + i) 0) ((h * 2 + 1) * s + j) ≡ bit_at (get_or old ((h * 2 + 1) * s + i) 0) (g * 2 * s + j)
+  even_odd : bit_at (get_or new (g * 2 * d + i) 0) ((h * 2 + 1) * s + j) ≡ bit_at (get_or old ((h * 2 + 1) * d + i) 0) (g * 2 * s + j)
   even_odd =
       same_place new (omega arith) (omega arith) ∙ (step g i in_g in_i h j in_h in_j).1
       ∙ same_place mid (omega arith) refl
-      ∙ before.turned g h (s + i) j in_g in_h (omega arith) (omega arith) ∙ same_place old (omega arith) (omega arith)
+      ∙ before.turned g h (d + i) j in_g in_h (omega arith) (omega arith) ∙ same_place old (omega arith) (omega arith)
 
-  odd_even : bit_at (get_or new ((g * 2 + 1) * s + i) 0) (h * 2 * s + j) ≡ bit_at (get_or old (h * 2 * s + i) 0) ((g * 2 + 1) * s + j)
+  odd_even : bit_at (get_or new ((g * 2 + 1) * d + i) 0) (h * 2 * s + j) ≡ bit_at (get_or old (h * 2 * d + i) 0) ((g * 2 + 1) * s + j)
   odd_even =
       same_place new (omega arith) (omega arith) ∙ (step g i in_g in_i h j in_h in_j).2
       ∙ same_place mid refl (omega arith)
       ∙ before.turned g h i (s + j) in_g in_h (omega arith) (omega arith) ∙ same_place old (omega arith) (omega arith)
 
-  odd_odd : bit_at (get_or new ((g * 2 + 1) * s + i) 0) ((h * 2 + 1) * s + j)
-      ≡ bit_at (get_or old ((h * 2 + 1) * s + i) 0) ((g * 2 + 1) * s + j)
+  odd_odd : bit_at (get_or new ((g * 2 + 1) * d + i) 0) ((h * 2 + 1) * s + j)
+      ≡ bit_at (get_or old ((h * 2 + 1) * d + i) 0) ((g * 2 + 1) * s + j)
   odd_odd =
       same_place new (omega arith) (omega arith) ∙ (step g i in_g in_i h j in_h in_j).3
       ∙ same_place mid (omega arith) (omega arith)
-      ∙ before.turned g h (s + i) (s + j) in_g in_h (omega arith) (omega arith) ∙ same_place old (omega arith) (omega arith)
+      ∙ before.turned g h (d + i) (s + j) in_g in_h (omega arith) (omega arith) ∙ same_place old (omega arith) (omega arith)
 
-pub turned_more : (s : ℕ) (old mid new : List ℕ) → SquaresTurned (32 / s) (2 * s) old mid → SquaresChangePlaces s mid new
-    → SquaresTurned (32 / s * 2) s old new
-turned_more s old mid new before step = record {
+pub turned_more : (d s : ℕ) (old mid new : List ℕ) → SquaresTurned (32 / s) (2 * d) (2 * s) old mid → SquaresChangePlaces d s mid new
+    → SquaresTurned (32 / s * 2) d s old new
+turned_more d s old mid new before step = record {
   turned = λ p q i j in_p in_q in_i in_j.
       elim (even_or_odd p) [
         | inl (g, even) ↦
             elim (even_or_odd q) [
-              | inl (h, even_q) ↦ rw (even, even_q) (even_even s old mid new before step g h i j (omega arith) (omega arith) in_i in_j)
-              | inr (h, odd_q) ↦ rw (even, odd_q) (even_odd s old mid new before step g h i j (omega arith) (omega arith) in_i in_j)
+              | inl (h, even_q) ↦ rw (even, even_q) (even_even d s old mid new before step g h i j (omega arith) (omega arith) in_i in_j)
+              | inr (h, odd_q) ↦ rw (even, odd_q) (even_odd d s old mid new before step g h i j (omega arith) (omega arith) in_i in_j)
             ]
         | inr (g, odd) ↦
             elim (even_or_odd q) [
-              | inl (h, even_q) ↦ rw (odd, even_q) (odd_even s old mid new before step g h i j (omega arith) (omega arith) in_i in_j)
-              | inr (h, odd_q) ↦ rw (odd, odd_q) (odd_odd s old mid new before step g h i j (omega arith) (omega arith) in_i in_j)
+              | inl (h, even_q) ↦ rw (odd, even_q) (odd_even d s old mid new before step g h i j (omega arith) (omega arith) in_i in_j)
+              | inr (h, odd_q) ↦ rw (odd, odd_q) (odd_odd d s old mid new before step g h i j (omega arith) (omega arith) in_i in_j)
             ]
       ];
 }
 
-turned_first : (block : List ℕ) → SquaresTurned 1 64 block block
-turned_first block = record { turned = first }
+turned_first : (d : ℕ) (block : List ℕ) → SquaresTurned 1 d 64 block block
+turned_first d block = record { turned = first }
   where
-    first : (p q i j : ℕ) → p < 1 → q < 1 → i < 64 → j < 64
-        → bit_at (get_or block (p * 64 + i) 0) (q * 64 + j) ≡ bit_at (get_or block (q * 64 + i) 0) (p * 64 + j)
-    first p q i j in_p in_q in_i in_j = same_place block (omega arith) (omega arith)
+    first : (p q i j : ℕ) → p < 1 → q < 1 → i < d → j < 64
+        → bit_at (get_or block (p * d + i) 0) (q * 64 + j) ≡ bit_at (get_or block (q * d + i) 0) (p * 64 + j)
+    first p q i j in_p in_q in_i in_j =
+        let p_is : p ≡ 0 = omega arith in
+        let q_is : q ≡ 0 = omega arith in
+        rw (p_is, q_is) refl
+
+-- words whose squares are single numbers are turned
+numbers_turned : (m w : ℕ) (old new : List ℕ) → 64 / w ≡ m → SquaresTurned m 1 w old new → AreTransposed w old new
+numbers_turned m w old new many done i j u in_i in_j in_u =
+    same_place new (omega arith) refl ∙ done.turned i j 0 u (omega (arith, many)) (omega (arith, many)) (omega arith) in_u
+    ∙ same_place old (omega arith) refl
 
 -- the six steps in a row
-pub transposed : (a b c d e f g : List ℕ) → SquaresChangePlaces 32 a b → SquaresChangePlaces 16 b c → SquaresChangePlaces 8 c d
-    → SquaresChangePlaces 4 d e → SquaresChangePlaces 2 e f → SquaresChangePlaces 1 f g → IsTransposed a g
+pub transposed : (a b c d e f g : List ℕ) → SquaresChangePlaces 32 32 a b → SquaresChangePlaces 16 16 b c → SquaresChangePlaces 8 8 c d
+    → SquaresChangePlaces 4 4 d e → SquaresChangePlaces 2 2 e f → SquaresChangePlaces 1 1 f g → IsTransposed a g
 transposed a b c d e f g first second third fourth fifth sixth i j in_i in_j =
-    let done = turned_more 1 a f g (turned_more 2 a e f (turned_more 4 a d e (turned_more 8 a c d
-    (turned_more 16 a b c (turned_more 32 a a b (turned_first a) first) second) third) fourth) fifth) sixth in
+    let done = turned_more 1 1 a f g (turned_more 2 2 a e f (turned_more 4 4 a d e (turned_more 8 8 a c d
+    (turned_more 16 16 a b c (turned_more 32 32 a a b (turned_first 64 a) first) second) third) fourth) fifth) sixth in
     same_place g (omega arith) (omega arith) ∙ done.turned i j 0 0 in_i in_j (omega arith) (omega arith)
     ∙ same_place a (omega arith) (omega arith)
+
+-- bits are numbers of one bit
+pub transposed_1 : (old new : List ℕ) → IsTransposed old new → AreTransposed 1 old new
+transposed_1 old new turned i j u in_i in_j in_u =
+    same_place new refl (omega arith) ∙ turned i j (omega arith) (omega arith) ∙ same_place old refl (omega arith)
+
+-- numbers of more bits take fewer steps
+pub transposed_2 : (a b c d e f : List ℕ) → SquaresChangePlaces 16 32 a b → SquaresChangePlaces 8 16 b c → SquaresChangePlaces 4 8 c d
+    → SquaresChangePlaces 2 4 d e → SquaresChangePlaces 1 2 e f → AreTransposed 2 a f
+transposed_2 a b c d e f first second third fourth fifth =
+    numbers_turned 32 2 a f refl
+    (turned_more 1 2 a e f (turned_more 2 4 a d e (turned_more 4 8 a c d (turned_more 8 16 a b c (turned_more 16 32 a a b (turned_first 32 a) first)
+    second) third) fourth) fifth)
+
+pub transposed_4 : (a b c d e : List ℕ) → SquaresChangePlaces 8 32 a b → SquaresChangePlaces 4 16 b c → SquaresChangePlaces 2 8 c d
+    → SquaresChangePlaces 1 4 d e → AreTransposed 4 a e
+transposed_4 a b c d e first second third fourth =
+    numbers_turned 16 4 a e refl
+    (turned_more 1 4 a d e (turned_more 2 8 a c d (turned_more 4 16 a b c (turned_more 8 32 a a b (turned_first 16 a) first) second) third) fourth)
+
+pub transposed_8 : (a b c d : List ℕ) → SquaresChangePlaces 4 32 a b → SquaresChangePlaces 2 16 b c → SquaresChangePlaces 1 8 c d
+    → AreTransposed 8 a d
+transposed_8 a b c d first second third =
+    numbers_turned 8 8 a d refl (turned_more 1 8 a c d (turned_more 2 16 a b c (turned_more 4 32 a a b (turned_first 8 a) first) second) third)
+
+pub transposed_16 : (a b c : List ℕ) → SquaresChangePlaces 2 32 a b → SquaresChangePlaces 1 16 b c → AreTransposed 16 a c
+transposed_16 a b c first second =
+    numbers_turned 4 16 a c refl (turned_more 1 16 a b c (turned_more 2 32 a a b (turned_first 4 a) first) second)

@@ -1,10 +1,16 @@
--- Blocks of 64 words of 64 bits, and the exchange of their halves.
+-- Square blocks of words, of bits or of numbers of a few bits each, and the exchange of their halves.
 use Rattle.std.specs.Prelude.{◌≡◌, ℕ, ◌+◌, ◌*◌, ◌/◌, ◌<◌, List, slice_index}
 use Rattle.std.specs.Int.{bit_at}
 
 -- One block is the other turned over its diagonal: bit j of word i is bit i of word j.
 abbrev pub IsTransposed : List ℕ → List ℕ → Type 0
 IsTransposed old new = (i j : ℕ) → i < 64 → j < 64 → bit_at (slice_index new i) j ≡ bit_at (slice_index old j) i
+
+-- One block is the other turned over its diagonal, where a word holds 64 / w numbers of w bits, and a block has as many words:
+-- number j of word i is number i of word j, bit by bit.
+abbrev pub AreTransposed : ℕ → List ℕ → List ℕ → Type 0
+AreTransposed w old new = (i j u : ℕ) → i < 64 / w → j < 64 / w → u < w
+    → bit_at (slice_index new i) (j * w + u) ≡ bit_at (slice_index old j) (i * w + u)
 
 -- Of each 2 * size bits of the mask in a row, the lower half are ones and the upper half are zeros.
 abbrev pub IsLowHalves : ℕ → ℕ → Type 0
@@ -25,8 +31,8 @@ abbrev pub WordsChangePlaces : ℕ → List ℕ → List ℕ → ℕ → ℕ →
 WordsChangePlaces size old new i k =
     ChangePlaces size (slice_index old i) (slice_index old k) (slice_index new i) (slice_index new k)
 
--- A block cut into squares of size x size bits, four of them to a larger square: in each of these the two off the diagonal
--- have changed places.
-abbrev pub SquaresChangePlaces : ℕ → List ℕ → List ℕ → Type 0
-SquaresChangePlaces size old new =
-    (p i : ℕ) → p < 32 / size → i < size → WordsChangePlaces size old new (p * (2 * size) + i) (p * (2 * size) + size + i)
+-- A block cut into squares of some words by size bits, four of them to a larger square: in each of these the two off the
+-- diagonal have changed places.
+abbrev pub SquaresChangePlaces : ℕ → ℕ → List ℕ → List ℕ → Type 0
+SquaresChangePlaces words size old new =
+    (p i : ℕ) → p < 32 / size → i < words → WordsChangePlaces size old new (p * (2 * words) + i) (p * (2 * words) + words + i)

@@ -1,5 +1,5 @@
 //! Rows of words of 64 bits: single bits, masks, sums of up to eight rows into one, copies to any place, exchanges, a few bits
-//! as a number, the digits of a word and back, and the turn of a block of 64 x 64 bits.
+//! as a number, the digits of a word and back, and the turn of a block of 64 x 64 bits, or of numbers of a few bits each.
 //!
 //! Column `j` of a row is bit `j % 64`, counted from the least significant, of word `j / 64`. No call takes memory, and
 //! none refuses: what a call needs of its slices is in its `requires`.
@@ -25,7 +25,7 @@ pub use rows::{
 };
 pub use shift::copy_bits;
 pub use take::take_bits;
-pub use transpose::transpose_64;
+pub use transpose::{transpose_64, transpose_numbers};
 
 /// How many words a row of `cols` columns takes.
 pub fn words_for(cols: u32) -> u32

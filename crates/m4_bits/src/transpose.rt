@@ -1,48 +1,125 @@
-//! A block of 64 x 64 bits, turned over its diagonal by exchanging halves: Warren, Hacker's Delight, section 7-3.
+//! A block of 64 x 64 bits, or of numbers of a few bits each, turned over its diagonal by exchanging halves: Warren, Hacker's
+//! Delight, section 7-3.
 
-ghost use Rattle.std.specs.Prelude.{◌≡◌, ℕ, ◌+◌, ◌*◌, ◌/◌, ◌<◌, ◌≤◌, length, slice_index};
-ghost use Rattle.m4_bits.specs.Transpose.{IsTransposed, IsLowHalves, ChangePlaces, WordsChangePlaces, SquaresChangePlaces};
+ghost use Rattle.std.specs.Prelude.{◌≡◌, ℕ, ◌+◌, ◌*◌, ◌/◌, ◌<◌, ◌≤◌, ◌==◌, ◌||◌, length, slice_index, IsTrue};
+ghost use Rattle.m4_bits.specs.Transpose.{IsTransposed, AreTransposed, IsLowHalves, ChangePlaces, WordsChangePlaces, SquaresChangePlaces};
+
+// The lower halves of each 64, 32, 16, 8, 4 and 2 bits of a word in a row.
+const LOW_32: u64 = 0x0000_0000_FFFF_FFFF;
+
+const LOW_16: u64 = 0x0000_FFFF_0000_FFFF;
+
+const LOW_8: u64 = 0x00FF_00FF_00FF_00FF;
+
+const LOW_4: u64 = 0x0F0F_0F0F_0F0F_0F0F;
+
+const LOW_2: u64 = 0x3333_3333_3333_3333;
+
+const LOW_1: u64 = 0x5555_5555_5555_5555;
 
 /// Turns a block of 64 words over its diagonal: bit `j` of word `i` is then what bit `i` of word `j` was.
 pub fn transpose_64(block: &mut [u64])
     requires { length block.old ≡ 64 }
     ensures { IsTransposed block.old block.new }
 {
-    exchange_squares(block, 32, 0x0000_0000_FFFF_FFFF);
-    exchange_squares(block, 16, 0x0000_FFFF_0000_FFFF);
-    exchange_squares(block, 8, 0x00FF_00FF_00FF_00FF);
-    exchange_squares(block, 4, 0x0F0F_0F0F_0F0F_0F0F);
-    exchange_squares(block, 2, 0x3333_3333_3333_3333);
-    exchange_squares(block, 1, 0x5555_5555_5555_5555);
+    exchange_squares(block, 32, 32, LOW_32);
+    exchange_squares(block, 16, 16, LOW_16);
+    exchange_squares(block, 8, 8, LOW_8);
+    exchange_squares(block, 4, 4, LOW_4);
+    exchange_squares(block, 2, 2, LOW_2);
+    exchange_squares(block, 1, 1, LOW_1);
 }
 
-/// Exchanges the two squares of `size` x `size` bits off the diagonal, in each square of twice that size.
-#[inline(always)]
-fn exchange_squares(block: &mut [u64], size: usize, mask: u64)
-    requires square { length block.old ≡ 64 }
-    requires halves { 32 / size * size ≡ 32 }
-    requires low { IsLowHalves size mask }
-    ensures { SquaresChangePlaces size block.old block.new }
+/// Turns a block of as many words as a word holds numbers of `width` bits over its diagonal: number `j` of word `i` is then what
+/// number `i` of word `j` was.
+#[inline]
+pub fn transpose_numbers(block: &mut [u64], width: u32)
+    requires widths { IsTrue (width == 1 || width == 2 || width == 4 || width == 8 || width == 16) }
+    requires square { length block.old ≡ 64 / width }
+    ensures { AreTransposed width block.old block.new }
 {
-    for place in 0..32 / size {
-        exchange_rows(block, place * (2 * size), size, mask);
+    if width == 1 {
+        transpose_64(block);
+    } else if width == 2 {
+        transpose_32(block);
+    } else if width == 4 {
+        transpose_16(block);
+    } else if width == 8 {
+        transpose_8(block);
+    } else {
+        transpose_4(block);
     }
 }
 
-/// Exchanges the halves of `size` words from `first` on and of the `size` words after these.
+/// Turns a block of 32 words of 32 numbers each.
+fn transpose_32(block: &mut [u64])
+    requires { length block.old ≡ 32 }
+    ensures { AreTransposed 2 block.old block.new }
+{
+    exchange_squares(block, 16, 32, LOW_32);
+    exchange_squares(block, 8, 16, LOW_16);
+    exchange_squares(block, 4, 8, LOW_8);
+    exchange_squares(block, 2, 4, LOW_4);
+    exchange_squares(block, 1, 2, LOW_2);
+}
+
+/// Turns a block of 16 words of 16 numbers each.
+fn transpose_16(block: &mut [u64])
+    requires { length block.old ≡ 16 }
+    ensures { AreTransposed 4 block.old block.new }
+{
+    exchange_squares(block, 8, 32, LOW_32);
+    exchange_squares(block, 4, 16, LOW_16);
+    exchange_squares(block, 2, 8, LOW_8);
+    exchange_squares(block, 1, 4, LOW_4);
+}
+
+/// Turns a block of 8 words of 8 numbers each.
+fn transpose_8(block: &mut [u64])
+    requires { length block.old ≡ 8 }
+    ensures { AreTransposed 8 block.old block.new }
+{
+    exchange_squares(block, 4, 32, LOW_32);
+    exchange_squares(block, 2, 16, LOW_16);
+    exchange_squares(block, 1, 8, LOW_8);
+}
+
+/// Turns a block of 4 words of 4 numbers each.
+fn transpose_4(block: &mut [u64])
+    requires { length block.old ≡ 4 }
+    ensures { AreTransposed 16 block.old block.new }
+{
+    exchange_squares(block, 2, 32, LOW_32);
+    exchange_squares(block, 1, 16, LOW_16);
+}
+
+/// Exchanges the two squares off the diagonal, of `words` words by `size` bits, in each square of twice that size.
 #[inline(always)]
-fn exchange_rows(block: &mut [u64], first: usize, size: usize, mask: u64)
-    requires within { first + 2 * size ≤ length block.old }
+fn exchange_squares(block: &mut [u64], words: usize, size: usize, mask: u64)
+    requires square { length block.old ≡ 32 / size * (2 * words) }
     requires halves { 32 / size * size ≡ 32 }
     requires low { IsLowHalves size mask }
-    ensures exchanged { (k : ℕ) → first ≤ k → k < first + size → WordsChangePlaces size block.old block.new k (k + size) }
-    ensures before { (k : ℕ) → k < first → slice_index block.new k ≡ slice_index block.old k }
-    ensures after { (k : ℕ) → first + 2 * size ≤ k → slice_index block.new k ≡ slice_index block.old k }
+    ensures { SquaresChangePlaces words size block.old block.new }
 {
-    for k in first..first + size {
-        let (upper, lower) = exchange_halves(block[k], block[k + size], size, mask);
+    for place in 0..32 / size {
+        exchange_rows(block, place * (2 * words), words, size, mask);
+    }
+}
+
+/// Exchanges the halves of `words` words from `first` on and of the `words` words after these.
+#[inline(always)]
+fn exchange_rows(block: &mut [u64], first: usize, words: usize, size: usize, mask: u64)
+    requires within { first + 2 * words ≤ length block.old }
+    requires halves { 32 / size * size ≡ 32 }
+    requires low { IsLowHalves size mask }
+    ensures exchanged { (k : ℕ) → first ≤ k → k < first + words → WordsChangePlaces size block.old block.new k (k + words) }
+    ensures before { (k : ℕ) → k < first → slice_index block.new k ≡ slice_index block.old k }
+    ensures after { (k : ℕ) → first + 2 * words ≤ k → slice_index block.new k ≡ slice_index block.old k }
+{
+    for k in first..first + words {
+        let (upper, lower) = exchange_halves(block[k], block[k + words], size, mask);
         block[k] = upper;
-        block[k + size] = lower;
+        block[k + words] = lower;
     }
 }
 
@@ -60,7 +137,8 @@ fn exchange_halves(first: u64, second: u64, size: usize, mask: u64) -> (u64, u64
 
 #[cfg(test)]
 mod tests {
-    use super::transpose_64;
+    use super::{transpose_64, transpose_numbers};
+    use std::process::Abort;
 
     #[test]
     fn words_of_turned_blocks(rt: HostRuntime) {
@@ -86,6 +164,34 @@ mod tests {
             transpose_64(&mut block);
             assert!(rt; block == before);
         }
+    }
+
+    /// A block of numbers of `W` bits, `N` to a word, is turned, and turned back.
+    fn numbers_are_turned<const W: usize, const N: usize, R: Abort>(rt: &R)
+        requires wide { IsTrue (W == 1 || W == 2 || W == 4 || W == 8 || W == 16) }
+        requires square { N ≡ 64 / W }
+    {
+        let before = block_from(0x9E37_79B9_7F4A_7C15);
+        let mut block = before;
+        transpose_numbers(&mut block[..N], W as u32);
+        for i in 0..N {
+            for j in 0..N {
+                let number = block[i] >> (j * W) << (64 - W);
+                assert_eq!(rt; number, before[j] >> (i * W) << (64 - W));
+            }
+        }
+        assert!(rt; block[N..] == before[N..]);
+        transpose_numbers(&mut block[..N], W as u32);
+        assert!(rt; block == before);
+    }
+
+    #[test]
+    fn blocks_of_numbers_of_each_width(rt: HostRuntime) {
+        numbers_are_turned::<1, 64, HostRuntime>(&rt);
+        numbers_are_turned::<2, 32, HostRuntime>(&rt);
+        numbers_are_turned::<4, 16, HostRuntime>(&rt);
+        numbers_are_turned::<8, 8, HostRuntime>(&rt);
+        numbers_are_turned::<16, 4, HostRuntime>(&rt);
     }
 
     /// A block of 64 words by shifts and sums, the first one the seed.
