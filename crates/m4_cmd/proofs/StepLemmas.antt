@@ -8,9 +8,10 @@ use Rattle.m4_model.specs.Matrix.{Matrix}
 use Rattle.m4_model.specs.Text.{Fault}
 use Rattle.m4_model.specs.Texts.{ReadsAs, RefusalAs}
 use Rattle.m4_model.specs.Words.{Job, form_of_files, form_of_answer}
-use Rattle.m4_model.specs.Outcome.{Stock, bytes_of, Accepted, Answer, status_of}
+use Rattle.m4_model.specs.Outcome.{Stock, bytes_of, Answer, status_of}
+use Rattle.m4_cmd.specs.OverBits.{Accepted}
 use Rattle.m4_model.specs.declared.choices.Form.{Form}
-use Rattle.m4_model.specs.declared.choices.Form.TheVariants.{Headed, Bare, Jcf}
+use Rattle.m4_model.specs.declared.choices.Form.TheVariants.{Headed, Bare, Jcf, Hex}
 use Rattle.m4_io.specs.Outside.{Rose}
 use Rattle.m4_io.specs.Reading.{IsFileOrLong}
 use Rattle.m4_text.specs.Refused.{IsRefusalIn}
@@ -49,6 +50,7 @@ pub reads_operand : (form : Form) (bytes : List ℕ) (M : Matrix) → ReadsAs fo
 reads_operand Headed bytes M reads = record { over_gf2 = reads.accepted.over_gf2; few_cols = reads.accepted.limits.cols }
 reads_operand Bare bytes M reads = record { over_gf2 = reads.accepted.over_gf2; few_cols = reads.accepted.limits.cols }
 reads_operand Jcf bytes M reads = record { over_gf2 = reads.accepted.over_gf2; few_cols = reads.accepted.limits.cols }
+reads_operand Hex bytes M reads = record { over_gf2 = reads.accepted.over_gf2; few_cols = reads.accepted.limits.cols }
 
 -- one more file that is accepted, behind those that are
 accepted_more : (files : Stock) (form : Form) (names : List (List ℕ)) (Ms : List Matrix) (name : List ℕ) (M : Matrix) → Accepted files form names Ms

@@ -1,3 +1,4 @@
+pub mod OverBits
 pub mod Factors
 pub mod Answer
 pub mod Run

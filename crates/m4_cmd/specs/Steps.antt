@@ -7,7 +7,8 @@ use Rattle.m4_model.specs.Matrix.{Matrix}
 use Rattle.m4_model.specs.Text.{Fault, BadAt, PastLimit}
 use Rattle.m4_model.specs.Texts.{ReadsAs, RefusalAs}
 use Rattle.m4_model.specs.Words.{Job, job, form_of_files, form_of_answer}
-use Rattle.m4_model.specs.Outcome.{Stock, bytes_of, Accepted, FirstRefused, FirstMissing, Fits, InBounds, Answer, HasAnswer, status_of, can_hold_answer, text_of_answer}
+use Rattle.m4_model.specs.Outcome.{Stock, bytes_of, Fits, InBounds, Answer, status_of}
+use Rattle.m4_cmd.specs.OverBits.{Accepted, FirstRefused, FirstMissing, HasAnswer, can_hold_answer, text_of_answer}
 use Rattle.m4_model.specs.declared.choices.Form.{Form}
 use Rattle.m4_model.specs.declared.command.Command.{Command}
 use Rattle.m4_model.specs.declared.status.Status.{Status}

@@ -1,7 +1,8 @@
 //! What a command answers, or why it has no answer.
 
 ghost use Rattle.std.specs.Prelude.{◌≡◌, IfOk, IfErr, All};
-ghost use Rattle.m4_model.specs.Outcome.{HasAnswer, status_of};
+ghost use Rattle.m4_model.specs.Outcome.{status_of};
+ghost use Rattle.m4_cmd.specs.OverBits.{HasAnswer};
 ghost use Rattle.m4_cmd.specs.Answer.{answer_told, IsOverBits};
 ghost use Rattle.m4_cmd.specs.Steps.{AnswerFails, IsOperand, answer_status};
 

@@ -1,7 +1,8 @@
 //! The answer of a command to operands that fit it.
 
 ghost use Rattle.std.specs.Prelude.{◌≡◌, IfOk, IfErr, All, [], ◌∷◌};
-ghost use Rattle.m4_model.specs.Outcome.{Fits, InKnownBounds, HasAnswer};
+ghost use Rattle.m4_model.specs.Outcome.{Fits, InKnownBounds};
+ghost use Rattle.m4_cmd.specs.OverBits.{HasAnswer};
 ghost use Rattle.m4_cmd.specs.Answer.{answer_told, IsOverBits};
 ghost use Rattle.m4_cmd.specs.Steps.{AnswerFails, IsOperand};
 

@@ -2,7 +2,8 @@
 
 ghost use Rattle.std.specs.Prelude.{◌≡◌, ◌≤◌, ◌++◌, length};
 ghost use Rattle.m4_model.specs.Field.{gf2};
-ghost use Rattle.m4_model.specs.Outcome.{factors_text, numbers_line, rank_line};
+ghost use Rattle.m4_model.specs.Outcome.{numbers_line, rank_line};
+ghost use Rattle.m4_cmd.specs.OverBits.{factors_text};
 ghost use Rattle.m4_model.specs.Text.{text};
 ghost use Rattle.m4_io.specs.Outside.{WritesAll};
 ghost use Rattle.m4_cmd.specs.Factors.{ple_text, pluq_text, rows_line};

@@ -3,7 +3,7 @@
 
 ghost use Rattle.std.specs.Prelude.{◌≡◌, IfOk, IfErr, [], ◌∷◌};
 ghost use Rattle.m4_model.specs.Field.{gf2};
-ghost use Rattle.m4_model.specs.Outcome.{HasAnswer, IsAnswer};
+ghost use Rattle.m4_cmd.specs.OverBits.{HasAnswer, IsAnswer};
 ghost use Rattle.m4_model.specs.Text.{IsWithinLimits};
 ghost use Rattle.m4_model.specs.declared.command.Command.TheVariants.{Inverse, Solve, Kernel};
 ghost use Rattle.m4_cmd.specs.Answer.{answer_told, IsOverBits};

@@ -3,7 +3,7 @@ use Rattle.std.proofs.Common.{◌≡◌, ℕ, List, [], ◌∷◌, refl, Option,
 use Rattle.std.specs.Fmt.{digits}
 use Rattle.m4_model.specs.declared.choices.Algo.TheVariants.{Strassen}
 use Rattle.m4_model.specs.declared.choices.Form.{Form}
-use Rattle.m4_model.specs.declared.choices.Form.TheVariants.{Headed, Bare, Jcf}
+use Rattle.m4_model.specs.declared.choices.Form.TheVariants.{Headed, Bare, Jcf, Hex}
 use Rattle.m4_model.specs.declared.command.Command.{Command}
 use Rattle.m4_model.specs.declared.command.Command.TheVariants.{Mul, Addmul, Sub, Convert, Ple, Pluq}
 use Rattle.m4_model.specs.Words.{Job, job, understand}
@@ -19,6 +19,14 @@ product_of_two = refl
 options_among_operands : job (codes "mul" ∷ codes "--in=bare" ∷ codes "A" ∷ codes "B" ∷ codes "--out=jcf" ∷ []) ≡ asks Mul (codes "A" ∷ codes "B" ∷ []) (Some Bare) (Some Jcf)
 unfolding job understand digits asks
 options_among_operands = refl
+
+answer_in_version_2 : job (codes "convert" ∷ codes "A" ∷ codes "--out=hex" ∷ []) ≡ asks Convert (codes "A" ∷ []) None (Some Hex)
+unfolding job understand digits asks
+answer_in_version_2 = refl
+
+files_in_version_2 : job (codes "convert" ∷ codes "A" ∷ codes "--in=hex" ∷ []) ≡ Err 3
+unfolding job understand digits asks
+files_in_version_2 = refl
 
 numbers_of_a_place : job (codes "addmul" ∷ codes "C" ∷ codes "1" ∷ codes "--out=text" ∷ codes "64" ∷ codes "A" ∷ codes "B" ∷ [])
     ≡ asks (Addmul 1 64) (codes "C" ∷ codes "A" ∷ codes "B" ∷ []) None (Some Headed)

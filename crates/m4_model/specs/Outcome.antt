@@ -1,13 +1,14 @@
 -- What a run of the program has to answer: its status and its text, from its words and the files at hand.
-use Rattle.std.specs.Prelude.{◌≡◌, ℕ, ◌+◌, ◌-◌, ◌*◌, ◌%◌, ◌≤◌, ◌⊎◌, List, [], ◌∷◌, ◌++◌, length, Option, Some, None, option_map, flat_map, find, bytes_eq, Ok, Err, codes, decimal}
-use Rattle.m4_model.specs.Field.{width}
+use Rattle.std.specs.Prelude.{◌≡◌, ℕ, ◌+◌, ◌-◌, ◌*◌, ◌%◌, ◌≤◌, ◌⊎◌, List, [], ◌∷◌, ◌++◌, length, All, Option, Some, None, option_map, flat_map, find, bytes_eq, Ok, Err, codes, decimal}
+use Rattle.m4_model.specs.Field.{gf2, width}
 use Rattle.m4_model.specs.Matrix.{Matrix, added, product}
 use Rattle.m4_model.specs.Shapes.{transposed, above, beside, cut, replace}
 use Rattle.m4_model.specs.Rank.{IsRank}
 use Rattle.m4_model.specs.Forms.{IsReduced, IsInverse, Singular, IsSolution, NoSolution, IsKernel}
 use Rattle.m4_model.specs.Factors.{IsPle, IsPluq}
-use Rattle.m4_model.specs.Text.{Fault, BadAt, PastLimit, IsWithinLimits, text}
-use Rattle.m4_model.specs.Texts.{can_hold, text_as, ReadsAs, RefusalAs}
+use Rattle.m4_model.specs.Text.{IsWithinLimits}
+use Rattle.m4_model.specs.Headed.{headed_text, Fault, BadAt, BadDegreeAt, ReducibleAt, PastLimit}
+use Rattle.m4_model.specs.FormTexts.{can_hold, text_as, ReadsAs, RefusalAs}
 use Rattle.m4_model.specs.Words.{Job, job, form_of_files, form_of_answer}
 use Rattle.m4_model.specs.declared.choices.Form.{Form}
 use Rattle.m4_model.specs.declared.command.Command.{Command}
@@ -65,6 +66,11 @@ pub record HasRectangle (A : Matrix) (row col row_end col_end : ℕ) : Type 0 wh
   pub in_order_across : col ≤ col_end
   pub in_rows : row_end ≤ A.rows
   pub in_cols : col_end ≤ A.cols
+
+-- The command is there for the operands' fields. A command that extension fields don't have yet takes operands over GF(2) alone.
+abbrev pub AreServed : Command → List Matrix → Type 0
+AreServed Convert matrices = Unit {0}
+AreServed command matrices = All (λ A. A.field ≡ gf2) matrices
 
 -- The operands' shapes fit the command.
 abbrev pub Fits : Command → List Matrix → Type 0
@@ -147,7 +153,7 @@ numbers_line name numbers = name ++ (numbers_text numbers ++ codes "\n")
 -- The text of factors of a matrix: a line with the rank, one with the order of the rows, one that tells of columns, and
 -- the two factors as headed texts.
 abbrev pub factors_text : ℕ → List ℕ → List ℕ → Matrix → Matrix → List ℕ
-factors_text r p columns L E = (rank_line r ++ (numbers_line (codes "rows") p ++ columns)) ++ (text L ++ text E)
+factors_text r p columns L E = (rank_line r ++ (numbers_line (codes "rows") p ++ columns)) ++ (headed_text L ++ headed_text E)
 
 -- The text of a PLE of A, which tells the pivots.
 pub record IsPleText (A : Matrix) (lines : List ℕ) : Type 0 where
@@ -205,8 +211,9 @@ text_of_answer form (OneMatrix R) = text_as form R
 text_of_answer form (Lines lines) = lines
 text_of_answer form (NoAnswer line) = line
 
--- The operands fit, the answer's shape is within the limits, and this is the answer.
+-- The command is there for the operands' fields, their shapes fit, the answer's shape is within the limits, and this is the answer.
 pub record HasAnswer (command : Command) (matrices : List Matrix) (answer : Answer) : Type 0 where
+  pub served : AreServed command matrices
   pub fits : Fits command matrices
   pub bounds : InBounds command matrices
   pub is : IsAnswer command matrices answer
@@ -228,18 +235,19 @@ pub record MissingOperand (words : List (List ℕ)) (stock : Stock) : Type 0 whe
   pub understood : job words ≡ Ok asked
   pub missing : FirstMissing stock (form_of_files asked.choices) asked.files
 
--- The shapes don't fit.
+-- The command isn't there for the operands' fields, or the shapes don't fit.
 pub record IsMisfit (words : List (List ℕ)) (stock : Stock) : Type 0 where
   pub asked : Job
   pub matrices : List Matrix
   pub operands : Operands words stock asked matrices
-  pub misfit : Fits asked.command matrices → ⊥
+  pub misfit : AreServed asked.command matrices → Fits asked.command matrices → ⊥
 
--- The shapes fit, and that of the answer passes a limit.
+-- The fields and shapes fit, and that of the answer passes a limit.
 pub record IsTooLarge (words : List (List ℕ)) (stock : Stock) : Type 0 where
   pub asked : Job
   pub matrices : List Matrix
   pub operands : Operands words stock asked matrices
+  pub served : AreServed asked.command matrices
   pub fits : Fits asked.command matrices
   pub large : InBounds asked.command matrices → ⊥
 
@@ -263,13 +271,24 @@ pub record IsWritten (words : List (List ℕ)) (stock : Stock) (status : Status)
   pub ends : status_of answer ≡ status
   pub text : written ≡ text_of_answer (form_of_answer asked.choices) answer
 
+-- The fault tells this place: the text goes wrong there, or a number stands there that makes no field.
+abbrev pub IsFaultAt : ℕ → Fault → Type 0
+IsFaultAt place (BadAt at) = at ≡ place
+IsFaultAt place (BadDegreeAt at) = at ≡ place
+IsFaultAt place (ReducibleAt at) = at ≡ place
+IsFaultAt place PastLimit = ⊥
+
+-- The operand of this number is the first that isn't accepted, and is refused at this place.
+abbrev pub RefusedAt : List (List ℕ) → Stock → ℕ → ℕ → Type 0
+RefusedAt words stock operand place = (fault : Fault) × IsFaultAt place fault × RefusedOperand words stock operand fault
+
 -- The status and the text that these words have over these files. A job that comes to a file that isn't there has
 -- none, nor has a read or a write that fails, nor want of memory.
 abbrev pub Outcome : List (List ℕ) → Stock → Status → List ℕ → Type 0
 Outcome words stock Done written = IsWritten words stock Done written
 Outcome words stock No written = IsWritten words stock No written
 Outcome words stock (Words word) written = (job words ≡ Err word) × (written ≡ [])
-Outcome words stock (Text operand place) written = RefusedOperand words stock operand (BadAt place) × (written ≡ [])
+Outcome words stock (Text operand place) written = RefusedAt words stock operand place × (written ≡ [])
 Outcome words stock Shape written = (IsMisfit words stock ⊎ IsUnheld words stock) × (written ≡ [])
 Outcome words stock Limit written =
     (((operand : ℕ) × RefusedOperand words stock operand PastLimit) ⊎ IsTooLarge words stock) × (written ≡ [])

@@ -11,7 +11,7 @@ use Rattle.m4_model.specs.declared.choices.Algo.{Algo}
 use Rattle.m4_model.specs.declared.choices.Algo.TheVariants.{Plain, Table, Strassen}
 use Rattle.m4_model.specs.declared.choices.Form.{Form}
 use Rattle.m4_model.specs.declared.choices.TheConstants.{LEAST_CUTOFF, MOST_CUTOFF}
-use Rattle.m4_model.specs.declared.choices.Form.TheVariants.{Headed, Bare, Jcf}
+use Rattle.m4_model.specs.declared.choices.Form.TheVariants.{Headed, Bare, Jcf, Hex}
 use Rattle.m4_model.specs.declared.choices.Choices.{Choices}
 
 -- A command, the names of its files in order, and what the options choose.
@@ -74,13 +74,17 @@ algo_named value =
     else if bytes_eq value (codes "strassen") then Some Strassen
     else None
 
--- The form that a value names.
+-- The form of files that a value names.
 abbrev pub form_named : List ℕ → Option Form
 form_named value =
     if bytes_eq value (codes "text") then Some Headed
     else if bytes_eq value (codes "bare") then Some Bare
     else if bytes_eq value (codes "jcf") then Some Jcf
     else None
+
+-- The form of answers that a value names.
+abbrev pub answer_form_named : List ℕ → Option Form
+answer_form_named value = if bytes_eq value (codes "hex") then Some Hex else form_named value
 
 -- No option is given.
 abbrev pub none_given : Choices
@@ -108,7 +112,7 @@ with_option name value choices =
     else if bytes_eq name (codes "--tables") then option_map (λ tables. record choices { tables = Some tables }) (once choices.tables (number_between 1 8 value))
     else if bytes_eq name (codes "--cutoff") then option_map (λ cutoff. record choices { cutoff = Some cutoff }) (once choices.cutoff (number_between LEAST_CUTOFF MOST_CUTOFF value))
     else if bytes_eq name (codes "--in") then option_map (λ form. record choices { from = Some form }) (once choices.from (form_named value))
-    else if bytes_eq name (codes "--out") then option_map (λ form. record choices { into = Some form }) (once choices.into (form_named value))
+    else if bytes_eq name (codes "--out") then option_map (λ form. record choices { into = Some form }) (once choices.into (answer_form_named value))
     else None
 
 -- A word that begins with `--` is an option.

@@ -29,6 +29,8 @@ pub enum Form {
     Bare,
     /// JCF: the shape, and for each row the numbers of the columns of its ones.
     Jcf,
+    /// Headed text in version 2, of four entries over GF(2) a digit. It is read as headed text is.
+    Hex,
 }
 
 /// What the options choose. An option that isn't given leaves the choice to the program.

@@ -15,7 +15,7 @@ use Rattle.m4_model.specs.Text.{InLimits}
 use Rattle.m4_model.specs.Jcf.{Token, tokens, tokens_from, is_white, number, Entry, entry, rows_begun, HasJcfHeader, ReadsJcf, nonzero_columns, line_of_columns, nonzeros, jcf_header, jcf_text, CanBeJcf}
 use Rattle.m4_model.specs.declared.choices.Form.{Form}
 use Rattle.m4_model.specs.Texts.{can_hold, text_as, ReadsAs}
-use Rattle.m4_model.specs.declared.choices.Form.TheVariants.{Headed, Bare, Jcf}
+use Rattle.m4_model.specs.declared.choices.Form.TheVariants.{Headed, Bare, Jcf, Hex}
 use Rattle.m4_text.proofs.Numbers.{AreDigits, AreDigits-decimal}
 use Rattle.m4_text.proofs.Columns.{few_columns}
 use Rattle.m4_text.proofs.Once.{small}
@@ -515,3 +515,4 @@ pub read_back : (form : Form) (M : Matrix) → InLimits M → can_hold form M �
 read_back Headed M accepted held short = record { accepted = accepted; spelled = refl }
 read_back Bare M accepted held short = record { accepted = accepted; held = held; spelled = refl }
 read_back Jcf M accepted held short = jcf_read_back M accepted held short
+read_back Hex M accepted held short = absurd held

@@ -9,7 +9,7 @@ use Rattle.m4_model.specs.Bare.{ReadsBare, RefusalBare, IsBareInLimits, IsBareFi
 use Rattle.m4_model.specs.Jcf.{Token, Entry, entry, tokens, judged, HasJcfHeader, IsJcf, BeginsJcf, IsFirstRefused, HasEntry, ReadsJcf, RefusalJcf, PassesLimit}
 use Rattle.m4_model.specs.declared.choices.Form.{Form}
 use Rattle.m4_model.specs.Texts.{ReadsAs, RefusalAs}
-use Rattle.m4_model.specs.declared.choices.Form.TheVariants.{Headed, Bare, Jcf}
+use Rattle.m4_model.specs.declared.choices.Form.TheVariants.{Headed, Bare, Jcf, Hex}
 use Rattle.m4_model.proofs.MatrixLemmas.{same_parts, same_matrix}
 use Rattle.m4_text.specs.Place.{IsLine}
 use Rattle.m4_text.proofs.Fronts.{same_parts as same_fronts}
@@ -217,18 +217,22 @@ pub never_both : (form : Form) (bytes : List ℕ) (M : Matrix) (fault : Fault) �
 never_both Headed bytes M fault reads refused = read_or_refused bytes M fault reads refused
 never_both Bare bytes M fault reads refused = never_bare bytes M fault reads refused
 never_both Jcf bytes M fault reads refused = jcf_read_or_refused bytes M fault reads refused
+never_both Hex bytes M fault reads refused = read_or_refused bytes M fault reads refused
 
 pub one_matrix : (form : Form) (bytes : List ℕ) (A B : Matrix) → ReadsAs form bytes A → ReadsAs form bytes B → A ≡ B
 one_matrix Headed bytes A B first second = read_once bytes A B first second
 one_matrix Bare bytes A B first second = bare_once bytes A B first second
 one_matrix Jcf bytes A B first second = jcf_once bytes A B first second
+one_matrix Hex bytes A B first second = read_once bytes A B first second
 
 pub one_fault : (form : Form) (bytes : List ℕ) (f g : Fault) → RefusalAs form bytes f → RefusalAs form bytes g → f ≡ g
 one_fault Headed bytes f g first second = refused_once bytes f g first second
 one_fault Bare bytes f g first second = bare_refused_once bytes f g first second
 one_fault Jcf bytes f g first second = jcf_refused_once bytes f g first second
+one_fault Hex bytes f g first second = refused_once bytes f g first second
 
 pub read_or_not : (form : Form) (bytes : List ℕ) → ((M : Matrix) × ReadsAs form bytes M) ⊎ ((fault : Fault) × RefusalAs form bytes fault)
 read_or_not Headed bytes = headed_or_not bytes
 read_or_not Bare bytes = bare_or_not bytes
 read_or_not Jcf bytes = jcf_or_not bytes
+read_or_not Hex bytes = headed_or_not bytes

@@ -5,7 +5,7 @@ use Rattle.m4_model.specs.Matrix.{Matrix}
 use Rattle.m4_model.specs.Text.{BadAt, PastLimit}
 use Rattle.m4_model.specs.declared.choices.Form.{Form}
 use Rattle.m4_model.specs.Texts.{RefusalAs, ReadsAs}
-use Rattle.m4_model.specs.declared.choices.Form.TheVariants.{Headed, Bare, Jcf}
+use Rattle.m4_model.specs.declared.choices.Form.TheVariants.{Headed, Bare, Jcf, Hex}
 use Rattle.m4_text.specs.declared.fault.TextFault.{TextFault}
 use Rattle.m4_text.specs.declared.fault.TextFault.TheVariants.{Bad, Limit, NoMemory}
 use Rattle.m4_text.specs.Refused.{IsRefusedIn}
@@ -19,6 +19,7 @@ pub reads_short : (form : Form) (bytes : List ℕ) (M : Matrix) → ReadsAs form
 reads_short Headed bytes M reads = subst (λ w. length w ≤ 2 ^ 29) (sym reads.spelled) (length-text-le M reads.accepted)
 reads_short Bare bytes M reads = length-bare-le bytes (M, reads)
 reads_short Jcf bytes M reads = reads.short
+reads_short Hex bytes M reads = subst (λ w. length w ≤ 2 ^ 29) (sym reads.spelled) (length-text-le M reads.accepted)
 
 -- a fault that is told
 pub told : (reader : Collected) (bytes : List ℕ) (fault : TextFault) → reader.fault ≡ Some fault → StandsFor reader bytes
@@ -52,6 +53,15 @@ pub refused_itself : (form : Form) (bytes : List ℕ) (fault : TextFault) → Is
 refused_itself form bytes (Bad at) refused = subst (λ w. RefusalAs form w (BadAt at)) (append-nil bytes) (refused [] (inl refl))
 refused_itself form bytes Limit refused = subst (λ w. RefusalAs form w PastLimit) (append-nil bytes) (refused [] (inl refl))
 refused_itself form bytes NoMemory refused = tt
+
+-- both versions of headed text are read alike
+hex_refused : (bytes : List ℕ) (fault : TextFault) → IsRefusedIn Headed bytes fault → IsRefusedIn Hex bytes fault
+hex_refused bytes (Bad at) refused = refused
+hex_refused bytes Limit refused = refused
+hex_refused bytes NoMemory refused = tt
+
+pub hex_result : (bytes : List ℕ) (result : Result Matrix TextFault) → IfErr result (IsRefusedIn Headed bytes) → IfErr result (IsRefusedIn Hex bytes)
+hex_result bytes result refused = MatchResult-weaker result refused (λ _ _. tt) (hex_refused bytes)
 
 -- a told fault stays for more bytes
 pub stands_more : (reader : Collected) (bytes piece : List ℕ) (fault : TextFault) → reader.fault ≡ Some fault → StandsFor reader bytes

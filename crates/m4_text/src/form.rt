@@ -29,11 +29,12 @@ pub fn read_as(alloc: Global, form: Form, bytes: &[u8]) -> Result<Mzd, TextFault
         Form::Headed => read_text(alloc, bytes),
         Form::Bare => read_bare(alloc, bytes),
         Form::Jcf => read_jcf(alloc, bytes),
+        Form::Hex => read_text(alloc, bytes),
     }
 }
 
 /// Whether the form can hold the matrix: bare text no matrix of columns without a row, JCF no row of zeros before
-/// another row.
+/// another row, version 2 of headed text none yet.
 pub fn can_write(m: &Mzd, form: Form) -> bool
     ensures { IsTrue result ↔ can_hold form m.now }
 {
@@ -41,6 +42,7 @@ pub fn can_write(m: &Mzd, form: Form) -> bool
         Form::Headed => true,
         Form::Bare => m.rows() > 0 || m.cols() == 0,
         Form::Jcf => zero_rows_stand_last(m),
+        Form::Hex => false,
     }
 }
 
@@ -54,6 +56,7 @@ pub fn write_as<O: Sink>(m: &Mzd, form: Form, sink: &mut O) -> Result<(), WriteF
         Form::Headed => write_text(m, sink),
         Form::Bare => write_bare(m, sink),
         Form::Jcf => write_jcf(m, sink),
+        Form::Hex => write_text(m, sink),
     }
 }
 

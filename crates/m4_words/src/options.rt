@@ -1,7 +1,7 @@
 //! Options by their names and values.
 
 ghost use Rattle.std.specs.Prelude.{◌≡◌, IfSome};
-ghost use Rattle.m4_model.specs.Words.{algo_named, form_named, once, with_option};
+ghost use Rattle.m4_model.specs.Words.{algo_named, answer_form_named, form_named, once, with_option};
 ghost use Rattle.m4_words.specs.Small.{AreSmall};
 
 use crate::number::number_between;
@@ -36,7 +36,7 @@ pub(crate) fn with_option(choices: Choices, name: &str, value: &str) -> Option<C
             ..choices
         }),
         "--out" => Some(Choices {
-            into: Some(once(choices.into, form_named(value))?),
+            into: Some(once(choices.into, answer_form_named(value))?),
             ..choices
         }),
         _ => None,
@@ -65,7 +65,17 @@ fn algo_named(value: &str) -> Option<Algo>
     }
 }
 
-/// The form that a value names.
+/// The form of answers that a value names.
+fn answer_form_named(value: &str) -> Option<Form>
+    ensures { result ≡ answer_form_named value.now }
+{
+    match value {
+        "hex" => Some(Form::Hex),
+        _ => form_named(value),
+    }
+}
+
+/// The form of files that a value names.
 fn form_named(value: &str) -> Option<Form>
     ensures { result ≡ form_named value.now }
 {
