@@ -139,6 +139,19 @@ fn move_rows(m: &mut Mzd)
     m.put_all(whole, home);
 }
 
+// Adds the second and the third row of `from` to the first.
+fn add_two_rows(m: &mut Mzd, from: &Mzd)
+    requires rows { m.old.rows ≡ 3 }
+    requires from_rows { from.now.rows ≡ 3 }
+    requires same_cols { from.now.cols ≡ m.old.cols }
+    ensures rows { m.new.rows ≡ m.old.rows }
+    ensures cols { m.new.cols ≡ m.old.cols }
+{
+    let (mut whole, home) = m.all_mut();
+    whole.add_both(0, &from.all(), 1, &from.all(), 2);
+    m.put_all(whole, home);
+}
+
 #[test]
 fn rows_are_moved(rt: HostRuntime) -> Result<(), Fail> {
     let mut m = Mzd::from_words(rt.alloc(), 130, &[[u64::MAX; 3], [0; 3], [0; 3]])?;
@@ -146,6 +159,9 @@ fn rows_are_moved(rt: HostRuntime) -> Result<(), Fail> {
     assert!(rt; ones_between(&m, 0, 0, 0));
     assert!(rt; ones_between(&m, 1, 100, 130));
     assert!(rt; ones_between(&m, 2, 0, 130));
+    let before = m.copy(rt.alloc())?;
+    add_two_rows(&mut m, &before);
+    assert!(rt; ones_between(&m, 0, 0, 100));
     Ok(())
 }
 
