@@ -1,8 +1,8 @@
 -- Over GF(2) the elements are the bits.
-use Rattle.std.proofs.Common.{◌≡◌, ℕ, zero, suc, ◌+◌, ◌*◌, ◌<◌, List, [], ◌∷◌, length, get_or, map, refl, sym, ◌∙◌, ap, ap₂, subst, arith}
+use Rattle.std.proofs.Common.{◌≡◌, ◌↔◌, ℕ, zero, suc, ◌+◌, ◌*◌, ◌<◌, List, [], ◌∷◌, length, get_or, map, refl, sym, ◌∙◌, ap, ap₂, subst, arith}
 use Rattle.std.specs.List.{All}
 use Rattle.std.proofs.lemmas.List.Elements.{All-head, All-tail, All-from_get_or}
-use Rattle.m4_model.specs.Field.{Field, IsElement, gf2}
+use Rattle.m4_model.specs.Field.{Field, IsCarried, IsElement, gf2}
 use Rattle.m4_model.proofs.MatrixLemmas.{same_parts}
 use Rattle.m4_model.specs.Field.{width}
 use Rattle.m4_field.proofs.ProductSteps.{carried_gf2}
@@ -50,3 +50,13 @@ shows_bits F n w is field cols =
 
 pub cols_gf2 : (F : Field) (n : ℕ) (w : Window) → F ≡ gf2 → w.cols ≡ n * width F → n ≡ w.cols
 cols_gf2 F n w field wide = let e : w.cols ≡ n * 1 = wide ∙ ap (λ (G : Field). n * width G) field in omega (arith, e)
+
+-- the degree tells GF(2)
+pub gf2_by_degree : (F : Field) (d : ℕ) → IsCarried F → d ≡ F.degree → (d ≡ 1) ↔ (F ≡ gf2)
+gf2_by_degree F d is here = (
+  λ one.
+      let low : F.degree ≡ 1 = sym here ∙ one in
+      let of : ℕ → ℕ → Field = λ e p. record { degree = e; poly = p } in
+      ap₂ of low (is.first low),
+  λ same. here ∙ ap (λ (G : Field). G.degree) same,
+)

@@ -1,6 +1,6 @@
 //! A matrix over any field that owns its words.
 
-ghost use Rattle.std.specs.Prelude.{◌≡◌, ◌*◌, ◌^◌, ◌<◌, ◌≤◌, IfOk};
+ghost use Rattle.std.specs.Prelude.{◌≡◌, ◌↔◌, ◌*◌, ◌^◌, ◌<◌, ◌≤◌, IsTrue, IfOk};
 ghost use Rattle.m4_model.specs.Field.{gf2, width};
 ghost use Rattle.m4_model.specs.Matrix.{IsMatrix, at, with_entry, zero_matrix};
 ghost use Rattle.m4_field.specs.Fields.{the_field};
@@ -73,6 +73,15 @@ impl Mzed {
         self.bits
     }
 
+    /// A matrix over GF(2), seen as the matrix of bits that it is.
+    pub fn as_bits(&self) -> &Mzd
+        requires { self.now.field ≡ gf2 }
+        ensures { result.now ≡ self.now }
+    {
+        let _rows = self.bits.rows();
+        &self.bits
+    }
+
     /// A matrix of bits in which so many elements of this field are packed in each row.
     pub fn of_packed(field: Field, cols: u32, bits: Mzd) -> Mzed
         requires { IsPackedIn (the_field field) cols bits }
@@ -117,6 +126,13 @@ impl Mzed {
         ensures { the_field result ≡ self.now.field }
     {
         self.field
+    }
+
+    /// Whether the matrix is over GF(2).
+    pub fn is_over_gf2(&self) -> bool
+        ensures { IsTrue result ↔ self.now.field ≡ gf2 }
+    {
+        self.field.e() == 1
     }
 
     /// The entry in row `r` and column `c`.
