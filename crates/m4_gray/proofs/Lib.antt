@@ -1,4 +1,3 @@
-pub mod GrayLemmas
 pub mod FillLemmas
 pub mod SlotLemmas
 pub mod PutLemmas

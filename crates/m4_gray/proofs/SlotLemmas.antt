@@ -12,7 +12,7 @@ use Rattle.m4_model.specs.Matrix.{Matrix, IsMatrix, row, zero_matrix}
 use Rattle.m4_model.proofs.FieldLemmas.{gf2_field}
 use Rattle.m4_model.proofs.ShapeLemmas.{HasShape-zero_matrix}
 use Rattle.m4_mzd.specs.Rows.{rows_at}
-use Rattle.m4_gray.specs.Slots.{Slots, IsKept, picked}
+use Rattle.m4_gray.specs.Slots.{Slots, IsSlots, picked}
 
 -- ---- few slots of few entries
 pub few-entries : (n k : ℕ) → n ≤ 8 → k ≤ 8 → n * 2 ^ k ≤ 2048
@@ -36,23 +36,19 @@ room-in_slot slot count k bits below few =
     omega (arith, power, all)
 
 -- ---- tables of zeros
-pub kept-new : (k count cols : ℕ) (entries sum : Matrix) → 1 ≤ k → k ≤ 8 → 1 ≤ count → count ≤ 8 → cols ≤ 2 ^ 24
-    → entries ≡ zero_matrix gf2 (count * 2 ^ k % 2 ^ 32) cols → sum ≡ zero_matrix gf2 1 cols → IsKept k count entries sum
-kept-new k count cols entries sum some_k few_k some few few_cols is is_sum =
+pub slots-new : (k count cols : ℕ) (entries : Matrix) → 1 ≤ k → k ≤ 8 → 1 ≤ count → count ≤ 8 → cols ≤ 2 ^ 24
+    → entries ≡ zero_matrix gf2 (count * 2 ^ k % 2 ^ 32) cols → IsSlots (record { k = k; count = count; entries = entries })
+slots-new k count cols entries some_k few_k some few few_cols is =
     let shape = HasShape-zero_matrix gf2 (count * 2 ^ k % 2 ^ 32) cols gf2_field in
     record {
-      slots = record {
-        some_bits = some_k;
-        few_bits = few_k;
-        some = some;
-        few = few;
-        matrix = subst IsMatrix (sym is) shape.is_matrix;
-        over_gf2 = ap (λ (A : Matrix). A.field) is;
-        rows = ap (λ (A : Matrix). A.rows) is ∙ begin-is count k few few_k;
-        few_cols = let same = ap (λ (A : Matrix). A.cols) is in omega (arith, same, few_cols);
-      };
-      sum_rows = ap (λ (A : Matrix). A.rows) is_sum;
-      sum_cols = ap (λ (A : Matrix). A.cols) is_sum ∙ sym (ap (λ (A : Matrix). A.cols) is);
+      some_bits = some_k;
+      few_bits = few_k;
+      some = some;
+      few = few;
+      matrix = subst IsMatrix (sym is) shape.is_matrix;
+      over_gf2 = ap (λ (A : Matrix). A.field) is;
+      rows = ap (λ (A : Matrix). A.rows) is ∙ begin-is count k few few_k;
+      few_cols = let same = ap (λ (A : Matrix). A.cols) is in omega (arith, same, few_cols);
     }
 
 -- ---- the numbers of entries, slot by slot

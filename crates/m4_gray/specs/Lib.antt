@@ -1,2 +1,1 @@
-pub mod Gray
 pub mod Slots

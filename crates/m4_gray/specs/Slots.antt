@@ -1,9 +1,9 @@
 -- Tables of the sums of a few rows.
-use Rattle.std.specs.Prelude.{◌≡◌, ℕ, ◌+◌, ◌*◌, ◌^◌, ◌≤◌, List, length, map, take, slice_index}
+use Rattle.std.specs.Prelude.{◌≡◌, ℕ, ◌+◌, ◌*◌, ◌^◌, ◌≤◌, List, ◌++◌, length, map, take, drop, slice_index}
 use Rattle.std.specs.List.{range_with_len}
 use Rattle.std.specs.Int.{bit_at}
 use Rattle.m4_model.specs.Field.{gf2, sum_below}
-use Rattle.m4_model.specs.Matrix.{Matrix, IsMatrix, matrix_of, row, at}
+use Rattle.m4_model.specs.Matrix.{Matrix, IsMatrix, matrix_of, row, row_sum, at}
 use Rattle.m4_model.specs.Shapes.{replace}
 
 -- So many tables of 2^k entries each: the entries of all of them are the rows of a matrix, slot after slot.
@@ -39,12 +39,14 @@ subset_sum B first bits x j = sum_below bits (λ i. bit_at x i * at B (first + i
 abbrev pub subset_sums : Matrix → ℕ → ℕ → Matrix
 subset_sums B first bits = matrix_of gf2 (2 ^ bits) B.cols (subset_sum B first bits)
 
+-- Each row with the row v added.
+abbrev pub each_added : List ℕ → List (List ℕ) → List (List ℕ)
+each_added v rows = map (λ xs. row_sum xs v) rows
+
+-- The first n rows, behind them the same with the row v added, and behind these the rows that stood there.
+abbrev pub doubled : ℕ → List ℕ → List (List ℕ) → List (List ℕ)
+doubled n v rows = take n rows ++ (each_added v (take n rows) ++ drop n (drop n rows))
+
 -- The tables with these rows for the first entries of a slot, in their first columns.
 abbrev pub filled : Slots → ℕ → Matrix → Slots
 filled t slot sums = record t { entries = replace t.entries (slot * 2 ^ t.k) 0 sums }
-
--- What the fields of the tables keep: the entries, and the row for a running sum.
-pub record IsKept (k count : ℕ) (entries sum : Matrix) : Type 0 where
-  pub slots : IsSlots (record { k = k; count = count; entries = entries })
-  pub sum_rows : sum.rows ≡ 1
-  pub sum_cols : sum.cols ≡ entries.cols

@@ -1,5 +1,5 @@
-//! Tables of the sums of a few rows, filled in the order of the Gray code, and rows with entries of several tables added
-//! to them in one pass: Albrecht, Bard and Hart, Efficient multiplication of dense matrices over GF(2), ACM Transactions
+//! Tables of the sums of a few rows, each sum made of a smaller one by one addition, as along a Gray code, and rows with
+//! entries of several tables added to them in one pass: Albrecht, Bard and Hart, Efficient multiplication of dense matrices over GF(2), ACM Transactions
 //! on Mathematical Software 37, 2010.
 #![tactic(auto)]
 

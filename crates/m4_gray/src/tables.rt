@@ -25,17 +25,16 @@ pub struct Tables {
     k: u32,
     count: u32,
     entries: Mzd,
-    sum: Mzd,
 }
 
 impl Model for Tables {
-    ghost use Rattle.m4_gray.specs.Slots.{Slots, IsKept};
+    ghost use Rattle.m4_gray.specs.Slots.{Slots, IsSlots};
 
     ghost Value = { Slots };
 
     ghost view = { λ t. record { k = t.k; count = t.count; entries = t.entries } };
 
-    ghost invariant = { λ t. IsKept t.k t.count t.entries t.sum };
+    ghost invariant = { λ t. IsSlots (record { k = t.k; count = t.count; entries = t.entries }) };
 }
 
 impl Tables {
@@ -49,12 +48,10 @@ impl Tables {
         ensures { IfOk result (λ t. t ≡ record { k = k; count = tables; entries = zero_matrix gf2 (tables * 2 ^ k) cols }) }
     {
         let entries = Mzd::zeros(alloc, tables << k, cols)?;
-        let sum = Mzd::zeros(alloc, 1, cols)?;
         Ok(Tables {
             k,
             count: tables,
             entries,
-            sum,
         })
     }
 
@@ -88,8 +85,7 @@ impl Tables {
     /// Makes entry `x` of a slot the sum of the rows `first + i` of `b` over the set bits `i` of `x`, for each `x` below
     /// `2^bits`. All else stays, the columns past those of `b` too.
     ///
-    /// The entries come in the order of the binary reflected Gray code, each by one addition of a row to the one before
-    /// it. Takes `2^bits - 1` steps.
+    /// Each entry but the empty sum is one addition of a row to another entry. Takes `2^bits - 1` steps.
     pub fn fill<L: Ledger>(
         &mut self,
         slot: u32,
@@ -112,16 +108,8 @@ impl Tables {
             r1: begin + (1 << bits),
             c1: b.cols(),
         };
-        let row = Rect {
-            r0: 0,
-            c0: 0,
-            r1: 1,
-            c1: b.cols(),
-        };
         let (mut part, around) = self.entries.win_mut(rect);
-        let (mut sum, beside) = self.sum.win_mut(row);
-        fill_with_sums(&mut part, &mut sum, b, first, bits, steps);
-        self.sum.put_win(sum, beside);
+        fill_with_sums(&mut part, b, first, bits, steps);
         self.entries.put_win(part, around);
         let _rows = self.entries.rows();
     }

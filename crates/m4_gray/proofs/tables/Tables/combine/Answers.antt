@@ -17,18 +17,18 @@ add_rows-requires g c =
     let few : length c.args.index.now ≤ t.count = omega (arith, c.told-index, c.requires.few, count) in
     let P : ℕ → ℕ → Type 0 = λ x m. x < 2 ^ m in
     let small = λ (s : ℕ) (below : s < length c.args.index.now). subst (P (get_or c.args.index.now s 0)) (sym k) (c.requires.in_slots s 0 below) in (
-      omega (arith, c.requires.few, count, c.self.invariant.slots.few),
+      omega (arith, c.requires.few, count, c.self.invariant.few),
       (
         c.requires.some,
         (
-          omega (arith, c.requires.few, count, c.self.invariant.slots.few),
+          omega (arith, c.requires.few, count, c.self.invariant.few),
           (
             c.requires.in_rows,
             (
               (λ j d within.
                   let less : get_or c.numbered-numbers.result j d < t.count * 2 ^ t.k =
                   number-lt c.args.index.now c.numbered-numbers.result t.k t.count j d few small c.numbered-numbers.ensures within in
-                  omega (arith, less, rows, c.self.invariant.slots.rows)),
+                  omega (arith, less, rows, c.self.invariant.rows)),
               ap (λ (A : Matrix). A.cols) c.narrow.ensures ∙ c.cols.ensures.cols,
             ),
           ),
