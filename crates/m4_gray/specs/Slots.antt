@@ -5,6 +5,8 @@ use Rattle.std.specs.Int.{bit_at}
 use Rattle.m4_model.specs.Field.{gf2, sum_below}
 use Rattle.m4_model.specs.Matrix.{Matrix, IsMatrix, matrix_of, row, row_sum, at}
 use Rattle.m4_model.specs.Shapes.{replace}
+use Rattle.m4_mzd.specs.declared.TheConstants.{MOST_SIDE}
+use Rattle.m4_gray.specs.declared.TheConstants.{MOST_K, MOST_TABLES}
 
 -- So many tables of 2^k entries each: the entries of all of them are the rows of a matrix, slot after slot.
 pub record Slots : Type 0 where
@@ -15,13 +17,13 @@ pub record Slots : Type 0 where
 -- What is true of all tables.
 pub record IsSlots (t : Slots) : Type 0 where
   pub some_bits : 1 ≤ t.k
-  pub few_bits : t.k ≤ 8
+  pub few_bits : t.k ≤ MOST_K
   pub some : 1 ≤ t.count
-  pub few : t.count ≤ 8
+  pub few : t.count ≤ MOST_TABLES
   pub matrix : IsMatrix t.entries
   pub over_gf2 : t.entries.field ≡ gf2
   pub rows : t.entries.rows ≡ t.count * 2 ^ t.k
-  pub few_cols : t.entries.cols ≤ 2 ^ 24
+  pub few_cols : t.entries.cols ≤ MOST_SIDE
 
 -- The first columns of entry x of a slot.
 abbrev pub entry : Slots → ℕ → ℕ → ℕ → List ℕ

@@ -6,6 +6,7 @@ ghost use Rattle.m4_mzd.specs.Window.{showing};
 ghost use Rattle.m4_mzd.specs.Seen.{shown};
 ghost use Rattle.m4_gray.specs.Slots.{doubled, each_added, subset_sums};
 
+use crate::MOST_K;
 use m4_mzd::{Steps, Win, WinMut};
 use std::sync::ledger::Ledger;
 
@@ -19,7 +20,7 @@ pub(crate) fn fill_with_sums<L: Ledger>(
     bits: u32,
     steps: &mut Steps<L>,
 )
-    requires few { bits ≤ 8 }
+    requires few { bits ≤ MOST_K }
     requires rows { part.old.rows ≡ 2 ^ bits }
     requires cols { part.old.cols ≡ (shown b.now).cols }
     requires in_rows { first + bits ≤ (shown b.now).rows }

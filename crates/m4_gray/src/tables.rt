@@ -10,13 +10,15 @@ ghost use Rattle.m4_mzd.specs.Rows.{sum_of};
 ghost use Rattle.m4_gray.specs.Slots.{IsSlots, filled, picked, subset_sums};
 
 use crate::fill::fill_with_sums;
+use crate::{MOST_K, MOST_TABLES};
 use m4_model::NoMemory;
 use m4_mzd::{MOST_SIDE, Mzd, Rect, Steps, Win, WinMut};
 use std::alloc::Global;
 use std::marker::Model;
 use std::sync::ledger::Ledger;
 
-/// Up to eight tables of `2^k` entries each, for `k` from 1 to 8. An entry is a row of at most 2^24 columns.
+/// Up to `MOST_TABLES` tables of `2^k` entries each, for `k` from 1 to `MOST_K`. An entry is a row of at most `MOST_SIDE`
+/// columns.
 ///
 /// All entries lie in one block of memory, slot after slot. `fill` makes the entries of a slot the sums of a few rows, and
 /// `combine` adds an entry of each slot to a row.
@@ -42,9 +44,9 @@ impl Tables {
     pub fn new(alloc: Global, cols: u32, k: u32, tables: u32) -> Result<Tables, NoMemory>
         requires few_cols { cols ≤ MOST_SIDE }
         requires some_k { 1 ≤ k }
-        requires small_k { k ≤ 8 }
+        requires small_k { k ≤ MOST_K }
         requires some_tables { 1 ≤ tables }
-        requires few_tables { tables ≤ 8 }
+        requires few_tables { tables ≤ MOST_TABLES }
         ensures { IfOk result (λ t. t ≡ record { k = k; count = tables; entries = zero_matrix gf2 (tables * 2 ^ k) cols }) }
     {
         let entries = Mzd::zeros(alloc, tables << k, cols)?;
@@ -141,13 +143,13 @@ impl Tables {
 /// that entries are added to, and are settled before the program runs.
 #[inline(always)]
 fn numbered<const T: usize>(k: u32, index: &[u32; T]) -> [u32; T]
-    requires small_k { k ≤ 8 }
-    requires few { T ≤ 8 }
+    requires small_k { k ≤ MOST_K }
+    requires few { T ≤ MOST_TABLES }
     requires in_slots { All (λ x. x < 2 ^ k) index.now }
     ensures { result ≡ map (λ slot. slot * 2 ^ k + slice_index index.now slot) (range_with_len 0 (length index.now)) }
 {
-    if k == 8 {
-        numbered_by::<T>(8, index)
+    if k == MOST_K {
+        numbered_by::<T>(MOST_K, index)
     } else {
         numbered_by::<T>(k, index)
     }
@@ -156,8 +158,8 @@ fn numbered<const T: usize>(k: u32, index: &[u32; T]) -> [u32; T]
 /// The same, slot by slot.
 #[inline(always)]
 fn numbered_by<const T: usize>(k: u32, index: &[u32; T]) -> [u32; T]
-    requires small_k { k ≤ 8 }
-    requires few { T ≤ 8 }
+    requires small_k { k ≤ MOST_K }
+    requires few { T ≤ MOST_TABLES }
     requires in_slots { All (λ x. x < 2 ^ k) index.now }
     ensures { result ≡ map (λ slot. slot * 2 ^ k + slice_index index.now slot) (range_with_len 0 (length index.now)) }
 {

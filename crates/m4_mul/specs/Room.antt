@@ -1,6 +1,7 @@
 -- The room that a product block by block is worked in.
 use Rattle.std.specs.Prelude.{◌≡◌, ℕ, ◌%◌, ◌^◌, ◌≤◌}
 use Rattle.m4_model.specs.Matrix.{Matrix}
+use Rattle.m4_mzd.specs.declared.TheConstants.{MOST_SIDE}
 use Rattle.m4_gray.specs.Slots.{Slots}
 use Rattle.m4_mul.specs.declared.packed.Blocks.{Blocks}
 
@@ -13,7 +14,7 @@ pub record Room : Type 0 where
 -- Blocks and panels that are not empty, and no larger than a matrix.
 pub record AreBlocks (blocks : Blocks) : Type 0 where
   pub some_rows : 1 ≤ blocks.rows
-  pub few_rows : blocks.rows ≤ 2 ^ 24
+  pub few_rows : blocks.rows ≤ MOST_SIDE
   pub some_words : 1 ≤ blocks.words
   pub few_words : blocks.words ≤ 2 ^ 18
   pub some_panel : 1 ≤ blocks.panel

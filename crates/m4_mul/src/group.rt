@@ -8,7 +8,7 @@ ghost use Rattle.m4_mzd.specs.Seen.{shown};
 ghost use Rattle.m4_mul.specs.Parts.{IsFilled, HasSizes, with_part};
 
 use crate::index::index_of;
-use m4_gray::Tables;
+use m4_gray::{MOST_TABLES, Tables};
 use m4_mzd::{Steps, Win, WinMut};
 use std::sync::ledger::Ledger;
 
@@ -76,7 +76,7 @@ fn add_slots<L: Ledger>(
     steps: &mut Steps<L>,
 )
     requires some { 1 ≤ slots }
-    requires eight { slots ≤ 8 }
+    requires eight { slots ≤ MOST_TABLES }
     requires few { slots ≤ tables.now.count }
     requires enough { width ≤ slots * tables.now.k }
     requires no_more { slots * tables.now.k < width + tables.now.k }
@@ -115,7 +115,7 @@ fn fill_slots<L: Ledger>(
     requires in_rows { first + width ≤ (shown b.now).rows }
     ensures some { 1 ≤ result }
     ensures few { result ≤ tables.old.count }
-    ensures eight { result ≤ 8 }
+    ensures eight { result ≤ MOST_TABLES }
     ensures enough { width ≤ result * tables.old.k }
     ensures no_more { result * tables.old.k < width + tables.old.k }
     ensures filled { IsFilled tables.new (shown b.now) first width result }

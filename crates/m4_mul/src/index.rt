@@ -5,13 +5,14 @@ ghost use Rattle.std.specs.Int.{bit_at};
 ghost use Rattle.m4_mzd.specs.Seen.{shown};
 ghost use Rattle.m4_mul.specs.Parts.{IsIndex};
 
+use m4_gray::{MOST_K, MOST_TABLES};
 use m4_mzd::Win;
 
 /// Which entry of each slot stands for row `i` of `a`: the bits of the row in the columns of the slot.
 #[inline(always)]
 pub(crate) fn index_of<const T: usize>(a: &Win, i: u32, first: u32, width: u32, k: u32) -> [u32; T]
-    requires small_k { k ≤ 8 }
-    requires few { T ≤ 8 }
+    requires small_k { k ≤ MOST_K }
+    requires few { T ≤ MOST_TABLES }
     requires no_more { T * k < width + k }
     requires in_rows { i < (shown a.now).rows }
     requires in_cols { first + width ≤ (shown a.now).cols }
@@ -28,7 +29,7 @@ pub(crate) fn index_of<const T: usize>(a: &Win, i: u32, first: u32, width: u32, 
 /// The same for slots of eight columns each, the first at the beginning of a word: the bytes of that word.
 #[inline(always)]
 fn bytes_of<const T: usize>(a: &Win, i: u32, first: u32) -> [u32; T]
-    requires few { T ≤ 8 }
+    requires few { T ≤ MOST_TABLES }
     requires whole_words { first % 64 ≡ 0 }
     requires in_rows { i < (shown a.now).rows }
     requires in_cols { first + 64 ≤ (shown a.now).cols }
@@ -56,8 +57,8 @@ fn byte_of(word: u64, slot: u32) -> u32
 /// The same for slots of any size, bit by bit of each.
 #[inline(always)]
 fn bits_of<const T: usize>(a: &Win, i: u32, first: u32, width: u32, k: u32) -> [u32; T]
-    requires small_k { k ≤ 8 }
-    requires few { T ≤ 8 }
+    requires small_k { k ≤ MOST_K }
+    requires few { T ≤ MOST_TABLES }
     requires no_more { T * k < width + k }
     requires in_rows { i < (shown a.now).rows }
     requires in_cols { first + width ≤ (shown a.now).cols }

@@ -10,5 +10,6 @@ mod table;
 #[cfg(test)]
 mod tests;
 
+pub use m4_gray::{MOST_K, MOST_TABLES};
 pub use plain::Plain;
 pub use table::Table;

@@ -3,7 +3,7 @@
 ghost use Rattle.std.specs.Prelude.{◌≡◌, ◌*◌, ◌%◌, ◌≤◌, IfOk};
 
 use m4_bits::words_for;
-use m4_gray::Tables;
+use m4_gray::{MOST_K, MOST_TABLES, Tables};
 use m4_model::NoMemory;
 use m4_mzd::{MOST_SIDE, Mzd};
 use std::alloc::Global;
@@ -77,9 +77,9 @@ impl Packed {
     ) -> Result<Packed, NoMemory>
         requires blocks { AreBlocks blocks }
         requires some_k { 1 ≤ k }
-        requires small_k { k ≤ 8 }
+        requires small_k { k ≤ MOST_K }
         requires some_tables { 1 ≤ tables }
-        requires few_tables { tables ≤ 8 }
+        requires few_tables { tables ≤ MOST_TABLES }
         ensures { IfOk result (λ p. p ≡ record { rows = blocks.rows; cols = blocks.words * 64; panel = blocks.panel * 64 }) }
     {
         let cols = blocks.words * WORD;

@@ -15,7 +15,9 @@ use std::sync::ledger::{Blank, Ledger};
 pub struct Plain;
 
 impl AddMul for Plain {
-    ghost limits = { λ _. record { m = 2 ^ 24; l = 2 ^ 24; n = 2 ^ 24 } };
+    ghost use Rattle.m4_mzd.specs.declared.TheConstants.{MOST_SIDE};
+
+    ghost limits = { λ _. record { m = MOST_SIDE; l = MOST_SIDE; n = MOST_SIDE } };
 
     fn reach(&self) -> Shape {
         Shape {

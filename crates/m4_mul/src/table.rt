@@ -9,7 +9,7 @@ ghost use Rattle.m4_mzd.specs.Seen.{shown};
 use crate::blocks::add_in_blocks;
 use crate::group::add_groups;
 use crate::packed::{Blocks, Packed};
-use m4_gray::Tables;
+use m4_gray::{MOST_K, MOST_TABLES, Tables};
 use m4_model::NoMemory;
 use m4_mzd::{AddMul, MOST_SIDE, Shape, Steps, Win, WinMut};
 use std::alloc::Global;
@@ -50,9 +50,9 @@ impl Table {
     pub fn new(alloc: Global, cols: u32, k: u32, tables: u32) -> Result<Table, NoMemory>
         requires few_cols { cols ≤ MOST_SIDE }
         requires some_k { 1 ≤ k }
-        requires small_k { k ≤ 8 }
+        requires small_k { k ≤ MOST_K }
         requires some_tables { 1 ≤ tables }
-        requires few_tables { tables ≤ 8 }
+        requires few_tables { tables ≤ MOST_TABLES }
         ensures { IfOk result (λ t. t ≡ record { cols = cols; k = k; tables = tables }) }
     {
         let packed = packed_for(alloc, cols, k, tables)?;
@@ -81,7 +81,9 @@ impl Table {
 }
 
 impl AddMul for Table {
-    ghost limits = { λ t. record { m = 2 ^ 24; l = 2 ^ 24; n = t.cols } };
+    ghost use Rattle.m4_mzd.specs.declared.TheConstants.{MOST_SIDE};
+
+    ghost limits = { λ t. record { m = MOST_SIDE; l = MOST_SIDE; n = t.cols } };
 
     fn reach(&self) -> Shape {
         Shape {
@@ -100,9 +102,9 @@ impl AddMul for Table {
 fn packed_for(alloc: Global, cols: u32, k: u32, tables: u32) -> Result<Option<Packed>, NoMemory>
     requires few_cols { cols ≤ MOST_SIDE }
     requires some_k { 1 ≤ k }
-    requires small_k { k ≤ 8 }
+    requires small_k { k ≤ MOST_K }
     requires some_tables { 1 ≤ tables }
-    requires few_tables { tables ≤ 8 }
+    requires few_tables { tables ≤ MOST_TABLES }
 {
     if cols <= WIDE {
         return Ok(None);

@@ -7,6 +7,7 @@ ghost use Rattle.m4_mul.specs.Room.{AreBlocks};
 use crate::blocks::add_in_blocks;
 use crate::packed::{Blocks, Packed};
 use crate::{Plain, Table};
+use m4_gray::{MOST_K, MOST_TABLES};
 use m4_model::NoMemory;
 use m4_mzd::{AddMul, Mzd, Shape, Steps, mixed};
 use std::alloc::Global;
@@ -74,7 +75,7 @@ fn multiply_ones<L: Ledger>(
     steps: &mut Steps<L>,
 ) -> Result<bool, NoMemory>
     requires some { 1 ≤ tables }
-    requires few { tables ≤ 8 }
+    requires few { tables ≤ MOST_TABLES }
     ensures { IfOk result (λ _. steps.new ≡ steps.old + 16) }
 {
     let a = Mzd::from_digits(alloc, &[*b"11111"; 3])?;
@@ -112,9 +113,9 @@ fn any_number_of_tables_adds_as_many_rows(rt: HostRuntime) -> Result<(), Fail> {
 fn engines_agree(alloc: Global, n: u32, k: u32, tables: u32) -> Result<bool, NoMemory>
     requires size { n ≤ 1000 }
     requires some_k { 1 ≤ k }
-    requires small_k { k ≤ 8 }
+    requires small_k { k ≤ MOST_K }
     requires some_tables { 1 ≤ tables }
-    requires few_tables { tables ≤ 8 }
+    requires few_tables { tables ≤ MOST_TABLES }
 {
     let a = mixed(alloc, n, n, 0x9E37_79B9_7F4A_7C15)?;
     let b = mixed(alloc, n, n, 0xD1B5_4A32_D192_ED03)?;
@@ -175,7 +176,7 @@ fn blocks_agree(alloc: Global, blocks: Blocks, shape: Shape, k: u32) -> Result<b
     requires inner { shape.l ≤ 300 }
     requires cols { shape.n ≤ 300 }
     requires some_k { 1 ≤ k }
-    requires small_k { k ≤ 8 }
+    requires small_k { k ≤ MOST_K }
 {
     let a = mixed(alloc, shape.m, shape.l, 0x9E37_79B9_7F4A_7C15)?;
     let b = mixed(alloc, shape.l, shape.n, 0xD1B5_4A32_D192_ED03)?;
