@@ -10,5 +10,5 @@ mod turn;
 
 pub use join::{augment, stack};
 pub use part::sub;
-pub use sum::{add_into, paste};
+pub use sum::add_into;
 pub use turn::transpose;

@@ -1,4 +1,4 @@
-//! A matrix added to a window, or copied over it.
+//! A matrix added to a window.
 
 ghost use Rattle.std.specs.Prelude.{◌≡◌};
 ghost use Rattle.m4_model.specs.Matrix.{added};
@@ -17,13 +17,4 @@ pub fn add_into(dst: &mut WinMut, src: &Win)
     for r in 0..dst.rows() {
         dst.add_tail(r, src, r, 0);
     }
-}
-
-/// Copies `src` over a window of the same shape.
-pub fn paste(dst: &mut WinMut, src: &Win)
-    requires same_rows { (shown src.now).rows ≡ dst.old.rows }
-    requires same_cols { (shown src.now).cols ≡ dst.old.cols }
-    ensures { dst.new ≡ showing dst.old (shown src.now) }
-{
-    dst.copy_rows(src);
 }

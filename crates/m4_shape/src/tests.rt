@@ -2,7 +2,7 @@
 
 ghost use Rattle.std.specs.Prelude.{◌≡◌, ◌<◌, ◌≤◌};
 
-use crate::{add_into, augment, paste, stack, sub, transpose};
+use crate::{add_into, augment, stack, sub, transpose};
 use m4_model::NoMemory;
 use m4_mzd::{Mzd, Rect, mixed};
 use std::alloc::Global;
@@ -38,14 +38,14 @@ fn sum(alloc: Global, a: &Mzd, b: &Mzd) -> Result<Mzd, NoMemory>
 {
     let mut m = Mzd::zeros(alloc, a.rows(), a.cols())?;
     let (mut whole, home) = m.all_mut();
-    paste(&mut whole, &a.all());
+    whole.copy_rows(&a.all());
     add_into(&mut whole, &b.all());
     m.put_all(whole, home);
     Ok(m)
 }
 
 #[test]
-fn sums_and_copies(rt: HostRuntime) -> Result<(), Fail> {
+fn sums(rt: HostRuntime) -> Result<(), Fail> {
     let alloc = rt.alloc();
     let a = Mzd::from_digits(alloc, &[*b"11"])?;
     let b = Mzd::from_digits(alloc, &[*b"01"])?;

@@ -12,7 +12,6 @@ use crate::room::Room;
 use m4_model::NoMemory;
 use m4_mzd::{AddMul, Mzd, Win};
 use m4_ple::ple;
-use m4_shape::paste;
 use std::alloc::Global;
 
 /// Makes of the matrix its reduced row echelon form, and answers its rank. Where memory is wanting, the matrix is as it was.
@@ -119,7 +118,7 @@ fn copied(alloc: Global, a: &Win) -> Result<Mzd, NoMemory>
 {
     let mut copy = Mzd::zeros(alloc, a.rows(), a.cols())?;
     let (mut all, home) = copy.all_mut();
-    paste(&mut all, a);
+    all.copy_rows(a);
     copy.put_all(all, home);
     Ok(copy)
 }
