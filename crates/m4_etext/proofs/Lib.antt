@@ -16,3 +16,7 @@ pub mod HexNumbers
 pub mod WrittenRows
 pub mod Once
 pub mod GoingOn
+pub mod FormReaders
+pub mod OneFault
+pub mod OneMatrix
+pub mod EachForm

@@ -49,7 +49,7 @@ pub get_or-fours : (entries : List ℕ) (t : ℕ) → t < digits_in Fours (lengt
 get_or-fours entries t below = get_or-map-range_with_len (digit_of_four entries) 0 ((length entries + 3) / 4) t t 0 below (omega arith)
 
 -- an entry past the last column
-bit_or_none : (n : ℕ) (entries : List ℕ) → IsRow (field_of Bits) n entries → (j : ℕ) → (get_or entries j 0 < 2) × (n ≤ j → get_or entries j 0 ≡ 0)
+pub bit_or_none : (n : ℕ) (entries : List ℕ) → IsRow (field_of Bits) n entries → (j : ℕ) → (get_or entries j 0 < 2) × (n ≤ j → get_or entries j 0 ≡ 0)
 bit_or_none n entries is j =
     let wide = is.wide in
     elim (cases_lt j n) [

@@ -7,3 +7,4 @@ pub mod Standing
 pub mod Reading
 pub mod Pending
 pub mod Digits
+pub mod FormReading

@@ -40,6 +40,14 @@ pub enum WriteFault {
     Failed,
 }
 
+impl From<m4_text::WriteFault> for WriteFault {
+    ghost from_gives = { λ _ fault. fault ≡ failed };
+
+    fn from(_fault: m4_text::WriteFault) -> WriteFault {
+        WriteFault::Failed
+    }
+}
+
 impl From<Failed> for WriteFault {
     ghost from_gives = { λ _ fault. fault ≡ failed };
 

@@ -1,4 +1,6 @@
-//! The headed text of a matrix over any field, in two versions.
+//! The texts of a matrix over any field.
+//!
+//! Headed text, in two versions:
 //!
 //! - Over GF(2), version 1: `gf2 M N` and a line feed, then M lines of N digits 0 or 1 and a line feed.
 //! - Over GF(2), version 2: `gf2x M N` and a line feed, then lines of hexadecimal digits, each of which is four entries, the
@@ -6,9 +8,11 @@
 //! - Over GF(2^e), in both versions: `gf2e E POLY M N` and a line feed, the polynomial in hexadecimal, then lines of N elements,
 //!   each of as many hexadecimal digits as its E bits need, the highest first.
 //!
-//! `HeadedReader` is fed a text in pieces: it keeps the matrix and a place in it, and no bytes behind the header line. It tells
-//! the exact place where a text goes wrong. `write_text` and `write_hex` write the one text of a matrix in a version.
-//! `write_numbers` writes a line of numbers.
+//! Bare text and JCF, which hold matrices over GF(2) alone, are those of `m4_text`.
+//!
+//! `Reader` is fed a text in pieces, and tells the exact place where it goes wrong. Of headed text it keeps the matrix and a place
+//! in it, and no bytes behind the header line; of bare text and JCF it keeps the bytes. `write_text` writes the one text of a matrix
+//! in a form, where `can_write` says that the form can hold it. `write_numbers` writes a line of numbers.
 #![tactic(auto)]
 
 mod base;
@@ -16,6 +20,8 @@ mod bits;
 mod elements;
 mod fault;
 mod fed;
+mod form;
+mod form_reader;
 mod head;
 mod header;
 mod hex;
@@ -33,8 +39,10 @@ mod tests;
 mod write;
 
 pub use fault::{TextFault, WriteFault};
-pub use laws::law_read_or_refused;
+pub use form::{can_write, write_text};
+pub use form_reader::Reader;
+pub use laws::{law_read, law_read_back};
 pub use limits::{MOST_BYTES, MOST_COLS, MOST_ROWS, MOST_WORDS, within_limits};
+pub use m4_model::Form;
 pub use number_line::write_numbers;
 pub use reader::HeadedReader;
-pub use write::{write_hex, write_text};

@@ -51,7 +51,8 @@ impl Model for HeadedReader {
 impl HeadedReader {
     /// A reader that was fed nothing.
     pub fn new(alloc: Global) -> HeadedReader
-        ensures { StandsFor result [] }
+        ensures stands { StandsFor result [] }
+        ensures quiet { IsUntold result }
     {
         HeadedReader {
             alloc,

@@ -1,4 +1,4 @@
-//! Headed texts over every field, read whole, byte by byte and cut at each place, and written.
+//! Texts in every form, read byte by byte and cut at each place, and written.
 use crate::*;
 use m4_field::FieldFault;
 use m4_io::MemSink;
@@ -8,37 +8,38 @@ use std::process::Abort;
 use std::test::Fail;
 
 /// Reads the bytes in two pieces.
-fn read_cut(alloc: Global, bytes: &[u8], cut: usize) -> Result<Mzed, TextFault> {
+fn read_cut(alloc: Global, form: Form, bytes: &[u8], cut: usize) -> Result<Mzed, TextFault> {
     let cut = cut.min(bytes.len());
-    let mut reader = HeadedReader::new(alloc);
+    let mut reader = Reader::new(alloc, form);
     let _ = reader.feed(&bytes[..cut]);
     let _ = reader.feed(&bytes[cut..]);
     reader.finish()
 }
 
 /// Reads the bytes one by one.
-fn read_bytes(alloc: Global, bytes: &[u8]) -> Result<Mzed, TextFault> {
-    let mut reader = HeadedReader::new(alloc);
+fn read_bytes(alloc: Global, form: Form, bytes: &[u8]) -> Result<Mzed, TextFault> {
+    let mut reader = Reader::new(alloc, form);
     for byte in bytes {
         let _ = reader.feed(&[*byte]);
     }
     reader.finish()
 }
 
-/// The matrix is written as these bytes in the two versions.
+/// The matrix is written in this form as these bytes.
 fn is_written(
     rt: &impl Abort,
     alloc: Global,
     m: &Mzed,
-    first: &[u8],
-    second: &[u8],
+    form: Form,
+    text: &[u8],
 ) -> Result<(), Fail> {
     let mut sink = MemSink::new(alloc, 100, Vec::new(alloc))?;
-    write_text(m, &mut sink)?;
-    assert_eq!(rt; sink.taken(), first);
-    let mut sink = MemSink::new(alloc, 100, Vec::new(alloc))?;
-    write_hex(m, &mut sink)?;
-    assert_eq!(rt; sink.taken(), second);
+    let held = can_write(m, form);
+    assert!(rt; held);
+    if held {
+        write_text(m, form, &mut sink)?;
+    }
+    assert_eq!(rt; sink.taken(), text);
     Ok(())
 }
 
@@ -71,11 +72,60 @@ fn headed_texts_are_read_and_written(rt: HostRuntime) -> Result<(), Fail> {
     let alloc = rt.alloc();
     for case in &TEXTS {
         for text in &[case.0, case.1] {
-            is_written(&rt, alloc, &read_bytes(alloc, text)?, case.0, case.1)?;
+            let m = read_bytes(alloc, Form::Hex, text)?;
+            is_written(&rt, alloc, &m, Form::Headed, case.0)?;
             for cut in 0..text.len() {
-                is_written(&rt, alloc, &read_cut(alloc, text, cut)?, case.0, case.1)?;
+                let m = read_cut(alloc, Form::Headed, text, cut)?;
+                is_written(&rt, alloc, &m, Form::Hex, case.1)?;
             }
         }
+    }
+    Ok(())
+}
+
+/// Bare text and JCF, the headed text of the same matrix, and its text in the first form once more.
+const PLAIN: [(Form, &[u8], &[u8], &[u8]); 6] = [
+    (Form::Bare, b"", b"gf2 0 0\n", b""),
+    (Form::Bare, b"\n\n", b"gf2 2 0\n\n\n", b"\n\n"),
+    (Form::Bare, b"10\n01\n", b"gf2 2 2\n10\n01\n", b"10\n01\n"),
+    (Form::Jcf, b"2 2 2 0", b"gf2 2 2\n00\n00\n", b"2 2 2\n0\n"),
+    (
+        Form::Jcf,
+        b" 2 3 2 9 -03\t1 -2",
+        b"gf2 2 3\n101\n010\n",
+        b"2 3 2\n3\n-1 3\n-2\n",
+    ),
+    (Form::Jcf, b"0 2 2 0\n", b"gf2 0 2\n", b"0 2 2\n0\n"),
+];
+
+#[test]
+fn plain_texts_are_read_and_written(rt: HostRuntime) -> Result<(), Fail> {
+    let alloc = rt.alloc();
+    for case in &PLAIN {
+        let m = read_bytes(alloc, case.0, case.1)?;
+        is_written(&rt, alloc, &m, Form::Headed, case.2)?;
+        for cut in 0..case.1.len() {
+            let m = read_cut(alloc, case.0, case.1, cut)?;
+            is_written(&rt, alloc, &m, case.0, case.3)?;
+        }
+    }
+    Ok(())
+}
+
+/// Headed texts of matrices that a form can't hold.
+const UNHELD: [(&[u8], Form); 4] = [
+    (b"gf2 0 3\n", Form::Bare),
+    (b"gf2 2 2\n00\n01\n", Form::Jcf),
+    (b"gf2e 2 7 1 1\n3\n", Form::Bare),
+    (b"gf2e 2 7 1 1\n3\n", Form::Jcf),
+];
+
+#[test]
+fn forms_that_hold_not_all(rt: HostRuntime) -> Result<(), Fail> {
+    let alloc = rt.alloc();
+    for case in &UNHELD {
+        let m = read_bytes(alloc, Form::Headed, case.0)?;
+        assert!(rt; !can_write(&m, case.1));
     }
     Ok(())
 }
@@ -132,14 +182,40 @@ const REFUSED: [(&[u8], TextFault); 24] = [
     (b"gf2y 1 1\n1\n", TextFault::Bad { at: 3 }),
 ];
 
+/// Bare texts and JCF that are refused, and why.
+const REFUSED_PLAIN: [(Form, &[u8], TextFault); 10] = [
+    (Form::Bare, b"1\r\n", TextFault::Bad { at: 1 }),
+    (Form::Bare, b"1", TextFault::Bad { at: 1 }),
+    (Form::Bare, b"\n1", TextFault::Bad { at: 1 }),
+    (Form::Jcf, b"", TextFault::Bad { at: 0 }),
+    (Form::Jcf, b"+2 2 2 0", TextFault::Bad { at: 0 }),
+    (Form::Jcf, b"2 2 2 0 -1 -2 -1", TextFault::Bad { at: 14 }),
+    (
+        Form::Jcf,
+        b"1 1 2 1 -1000000000000000000",
+        TextFault::Bad { at: 8 },
+    ),
+    (Form::Jcf, b"1 1 2 1 --1", TextFault::Bad { at: 8 }),
+    (Form::Jcf, b"65537 1 2 0", TextFault::Limit),
+    (Form::Jcf, b"65537 1 3 0", TextFault::Bad { at: 8 }),
+];
+
+/// The bytes are refused with this fault, in whichever two pieces they come, or one by one.
+fn is_refused_cut(rt: &impl Abort, alloc: Global, form: Form, bytes: &[u8], fault: TextFault) {
+    is_refused(rt, read_bytes(alloc, form, bytes), fault);
+    for cut in 0..bytes.len() + 1 {
+        is_refused(rt, read_cut(alloc, form, bytes, cut), fault);
+    }
+}
+
 #[test]
 fn other_texts_are_refused(rt: HostRuntime) -> Result<(), Fail> {
     let alloc = rt.alloc();
     for case in &REFUSED {
-        is_refused(&rt, read_bytes(alloc, case.0), case.1);
-        for cut in 0..case.0.len() + 1 {
-            is_refused(&rt, read_cut(alloc, case.0, cut), case.1);
-        }
+        is_refused_cut(&rt, alloc, Form::Headed, case.0, case.1);
+    }
+    for case in &REFUSED_PLAIN {
+        is_refused_cut(&rt, alloc, case.0, case.1, case.2);
     }
     Ok(())
 }

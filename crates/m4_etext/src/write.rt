@@ -20,7 +20,7 @@ use m4_io::{Failed, Sink};
 use m4_mzed::Mzed;
 
 /// Writes the headed text of the matrix, in version 1. It takes no memory.
-pub fn write_text<O: Sink>(m: &Mzed, sink: &mut O) -> Result<(), WriteFault>
+pub fn write_headed<O: Sink>(m: &Mzed, sink: &mut O) -> Result<(), WriteFault>
     ensures { WritesAll (O.taken sink.old) (O.taken sink.new) (O.faults sink.old) (O.faults sink.new) result
         (headed_text m.now) }
 {
