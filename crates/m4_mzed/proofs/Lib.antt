@@ -15,6 +15,7 @@ pub mod ProductLemmas
 pub mod PutLemmas
 pub mod RectLemmas
 pub mod RowLemmas
+pub mod RowSums
 pub mod ScaledRows
 pub mod SeenLemmas
 pub mod SumLemmas

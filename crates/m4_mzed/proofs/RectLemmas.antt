@@ -26,7 +26,7 @@ use Rattle.m4_mzed.proofs.PartLemmas.{packed_matrix}
 use Rattle.std.proofs.lemmas.Bool.{cases_lt, lt-ltb, le-ltb, le-leb, lt-leb}
 
 -- a row of a matrix over GF(2)
-bits_of_row : (P : Matrix) → IsMatrix P → P.field ≡ gf2 → (i : ℕ) → i < P.rows → AreBits (row P i)
+pub bits_of_row : (P : Matrix) → IsMatrix P → P.field ≡ gf2 → (i : ℕ) → i < P.rows → AreBits (row P i)
 bits_of_row P shape over i below = All-from_get_or (λ b. b < 2) (row P i) 0 (λ k inside.
     let Q : Field → Type 0 = λ G. at P i k < 2 ^ G.degree in subst Q over (shape.elements i k below (let e = shape.width i below in omega (arith, e, inside))))
 

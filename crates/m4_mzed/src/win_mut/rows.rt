@@ -43,6 +43,25 @@ impl EWinMut {
         add_scaled(&field, self.cols, &mut self.bits, r, &from.bits, s, x, c);
     }
 
+    /// Adds row `i` of `a` and row `j` of `b`, windows over the same field of as many columns, to row `r`, in one pass. All else
+    /// stays.
+    #[inline]
+    pub fn add_both(&mut self, r: u32, a: &EWin, i: u32, b: &EWin, j: u32)
+        requires in_rows { r < self.old.rows }
+        requires in_a { i < (e_shown a.now).rows }
+        requires in_b { j < (e_shown b.now).rows }
+        requires same_cols { (e_shown a.now).cols ≡ self.old.cols }
+        requires other_cols { (e_shown b.now).cols ≡ self.old.cols }
+        requires same_field { (e_shown a.now).field ≡ self.old.field }
+        requires other_field { (e_shown b.now).field ≡ self.old.field }
+        ensures { self.new ≡ showing self.old (with_row (content self.old) r (row_sum (row_sum (row (content self.old) r) (row (e_shown a.now) i)) (row (e_shown b.now) j))) }
+    {
+        let _rows = self.bits.rows();
+        let _rows_of_a = a.bits.rows();
+        let _rows_of_b = b.bits.rows();
+        self.bits.add_both(r, &a.bits, i, &b.bits, j);
+    }
+
     /// Makes row `r` `x` times what it was. All else stays.
     #[inline]
     pub fn scale_row(&mut self, r: u32, x: u32)
