@@ -1,14 +1,17 @@
 //! The engines that multiply over GF(2), made in one place for products and eliminations alike.
 
-ghost use Rattle.std.specs.Prelude.{◌≡◌, ◌^◌, ◌≤◌, IfOk};
+ghost use Rattle.std.specs.Prelude.{◌≡◌, ◌≤◌, IfOk, unwrap_or};
+ghost use Rattle.m4_mzd.specs.Reach.{IsReached};
 ghost use Rattle.m4_solve.specs.Context.{Serves};
-ghost use Rattle.m4_dense.specs.Engine.{IsEngine, engine_limits};
+ghost use Rattle.m4_dense.specs.Engine.{IsEngine, can_multiply, engine_limits};
 
+use crate::chosen::{Chosen, ELIMINATION_CUTOFF};
 use crate::how::How;
 use m4_model::{Algo, NoMemory};
 use m4_mul::{Plain, Table};
-use m4_mzd::{AddMul, Shape, Win, WinMut};
+use m4_mzd::{AddMul, MOST_SIDE, Shape, Win, WinMut};
 use m4_solve::Ctx;
+use m4_strassen::Strassen;
 use std::alloc::Global;
 
 /// One of the engines.
@@ -16,33 +19,51 @@ use std::alloc::Global;
 pub(crate) enum Engine {
     Plain(Plain),
     Table(Table),
+    Strassen(Strassen<Table>),
 }
 
 impl Engine {
-    /// The engine that is asked for, for products of so many columns.
-    pub(crate) fn new(alloc: Global, how: How, cols: u32) -> Result<Engine, NoMemory>
-        requires { cols ≤ 2 ^ 24 }
-        ensures { IfOk result (IsEngine how.algo how.k how.tables cols) }
+    /// The engine that is chosen, for products up to a shape.
+    pub(crate) fn new(alloc: Global, chosen: Chosen, shape: Shape) -> Result<Engine, NoMemory>
+        requires few_rows { shape.m ≤ MOST_SIDE }
+        requires few_inner { shape.l ≤ MOST_SIDE }
+        requires few_cols { shape.n ≤ MOST_SIDE }
+        ensures engine { IfOk result (IsEngine chosen.algo chosen.k chosen.tables chosen.cutoff shape) }
+        ensures ready { IfOk result can_multiply }
+        ensures reached { IfOk result (λ engine. IsReached (engine_limits engine) shape.m shape.l shape.n) }
     {
-        match how.algo {
+        match chosen.algo {
             Algo::Plain => Ok(Engine::Plain(Plain)),
-            Algo::Table => {
-                let table = Table::new(alloc, cols, how.k, how.tables)?;
-                Ok(Engine::Table(table))
+            Algo::Table => Ok(Engine::Table(tables(alloc, chosen, shape.n)?)),
+            Algo::Strassen => {
+                let table = tables(alloc, chosen, shape.n)?;
+                let halves = Strassen::new(alloc, shape, chosen.cutoff, table)?;
+                Ok(Engine::Strassen(halves))
             }
         }
     }
 }
 
+/// The tables that are chosen, for products of so many columns.
+fn tables(alloc: Global, chosen: Chosen, cols: u32) -> Result<Table, NoMemory>
+    requires { cols ≤ MOST_SIDE }
+    ensures { IfOk result (λ table. table ≡ record { cols = cols; k = chosen.k; tables = chosen.tables }) }
+{
+    Table::new(alloc, cols, chosen.k, chosen.tables)
+}
+
 impl AddMul for Engine {
-    ghost use Rattle.m4_dense.specs.Engine.{engine_limits};
+    ghost use Rattle.m4_dense.specs.Engine.{can_multiply, engine_limits};
 
     ghost limits = { engine_limits };
+
+    ghost ready = { can_multiply };
 
     fn reach(&self) -> Shape {
         match self {
             Engine::Plain(plain) => plain.reach(),
             Engine::Table(table) => table.reach(),
+            Engine::Strassen(halves) => halves.reach(),
         }
     }
 
@@ -50,6 +71,7 @@ impl AddMul for Engine {
         match self {
             Engine::Plain(plain) => plain.addmul(c, a, b),
             Engine::Table(table) => table.addmul(c, a, b),
+            Engine::Strassen(halves) => halves.addmul(c, a, b),
         }
     }
 }
@@ -61,13 +83,20 @@ pub(crate) fn context(
     rows: u32,
     cols: u32,
 ) -> Result<Ctx<Engine>, NoMemory>
-    requires few_rows { rows ≤ 2 ^ 24 }
-    requires few_cols { cols ≤ 2 ^ 24 }
+    requires few_rows { rows ≤ MOST_SIDE }
+    requires few_cols { cols ≤ MOST_SIDE }
+    ensures ready { IfOk result (λ ctx. can_multiply ctx.engine) }
     ensures serves { IfOk result (λ ctx. Serves (engine_limits ctx.engine) ctx.cutoff rows cols) }
-    ensures cutoff { IfOk result (λ ctx. ctx.cutoff ≡ how.cutoff) }
+    ensures cutoff { IfOk result (λ ctx. ctx.cutoff ≡ unwrap_or how.cutoff ELIMINATION_CUTOFF) }
 {
+    let shape = Shape {
+        m: rows,
+        l: rows.min(cols),
+        n: cols,
+    };
+    let chosen = Chosen::for_elimination(how, shape);
     Ok(Ctx {
-        engine: Engine::new(alloc, how, cols)?,
-        cutoff: how.cutoff,
+        engine: Engine::new(alloc, chosen, shape)?,
+        cutoff: chosen.cutoff,
     })
 }

@@ -3,13 +3,13 @@
 ghost use Rattle.std.specs.Prelude.{◌≡◌, ◌≤◌, ◌^◌, IfOk, length};
 ghost use Rattle.m4_model.specs.Field.{gf2};
 ghost use Rattle.m4_solve.specs.Context.{Serves};
-ghost use Rattle.m4_dense.specs.Engine.{engine_limits};
+ghost use Rattle.m4_dense.specs.Engine.{can_multiply, engine_limits};
 ghost use Rattle.m4_dense.specs.Factors.{IsPleOf, IsPluqOf};
 
 use crate::engine::{Engine, context};
 use crate::how::How;
 use m4_model::NoMemory;
-use m4_mzd::{AddMul, Mzd};
+use m4_mzd::{AddMul, MOST_SIDE, Mzd};
 use m4_mzed::Mzed;
 use m4_perm::Perm;
 use m4_ple::{ple_factors, pluq_factors};
@@ -57,10 +57,11 @@ struct Workspace {
 impl Workspace {
     /// What the factors of a matrix of so many rows and columns are made in.
     fn new(alloc: Global, how: How, rows: u32, cols: u32) -> Result<Workspace, NoMemory>
-        requires few_rows { rows ≤ 2 ^ 24 }
-        requires few_cols { cols ≤ 2 ^ 24 }
+        requires few_rows { rows ≤ MOST_SIDE }
+        requires few_cols { cols ≤ MOST_SIDE }
         ensures exchanges { IfOk result (λ space. length space.exchanges.items ≡ rows) }
         ensures pivots { IfOk result (λ space. length space.pivots.items ≡ rows) }
+        ensures ready { IfOk result (λ space. can_multiply space.context.engine) }
         ensures serves { IfOk result (λ space. Serves (engine_limits space.context.engine) space.context.cutoff rows cols) }
     {
         Ok(Workspace {

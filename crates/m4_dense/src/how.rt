@@ -1,45 +1,46 @@
 //! How things are computed.
 
-ghost use Rattle.std.specs.Prelude.{◌≡◌, ◌≤◌};
+ghost use Rattle.std.specs.Prelude.{◌≤◌, IfSome};
 
-use m4_model::Algo;
+use m4_model::{Algo, LEAST_CUTOFF, MOST_CUTOFF};
+use m4_mul::{MOST_K, MOST_TABLES};
 
 /// How things are computed: by which algorithm, and in which sizes. It decides about time and memory alone: whatever it
 /// says, the clauses of a call hold.
 ///
-/// `How::default()` suits everybody: tables, four of six columns at a time, and parts of 2,048 columns. Another one is
-/// written as `How { algo: Algo::Table, k: 8, tables: 2, cutoff: 1024 }`. Eliminations go row by row today, and none of it
-/// makes a difference to their time.
+/// `How::default()` suits everybody: it leaves all of it open, and what is open is taken as it was measured to be fastest,
+/// by the size of what is computed. Another one is written as `How { algo: Some(Algo::Table), k: Some(6), ..How::default() }`.
 #[derive(Clone, Copy)]
 pub struct How {
-    /// How products over GF(2) are computed. Over other fields they are computed row by row.
-    pub algo: Algo,
-    /// The rows of the second factor that share a table, 1 to 8: a table has `2^k` rows of the product's length.
-    pub k: u32,
-    /// How many tables are used at a time, 1 to 8. An elimination reserves them too, with rows as long as the matrix's.
-    pub tables: u32,
-    /// The columns up to which an elimination doesn't halve a part of the matrix, 64 to 65,536.
-    pub cutoff: u32,
-    ghost some_k: { 1 ≤ k },
-    ghost small_k: { k ≤ 8 },
-    ghost some_tables: { 1 ≤ tables },
-    ghost few_tables: { tables ≤ 8 },
-    ghost least_cutoff: { 64 ≤ cutoff },
-    ghost most_cutoff: { cutoff ≤ 65536 },
+    /// How products of bits are computed, which all other products are made of. `Algo::Plain` is row by row over every field.
+    pub algo: Option<Algo>,
+    /// The rows of the second factor that share a table, 1 to `MOST_K`: a table has `2^k` rows of the product's length.
+    pub k: Option<u32>,
+    /// How many tables are used at a time, 1 to `MOST_TABLES`.
+    pub tables: Option<u32>,
+    /// The size up to which nothing is halved, `LEAST_CUTOFF` to `MOST_CUTOFF`: with `Algo::Strassen` the sides of a product,
+    /// and in an elimination the columns of a part of the matrix.
+    pub cutoff: Option<u32>,
+    ghost some_k: { IfSome k (λ n. 1 ≤ n) },
+    ghost small_k: { IfSome k (λ n. n ≤ MOST_K) },
+    ghost some_tables: { IfSome tables (λ n. 1 ≤ n) },
+    ghost few_tables: { IfSome tables (λ n. n ≤ MOST_TABLES) },
+    ghost least_cutoff: { IfSome cutoff (λ n. LEAST_CUTOFF ≤ n) },
+    ghost most_cutoff: { IfSome cutoff (λ n. n ≤ MOST_CUTOFF) },
 }
 
 impl Default for How {
-    ghost use Rattle.m4_dense.specs.Default.{IsDefault};
+    ghost use Rattle.m4_dense.specs.Default.{IsOpen};
 
-    ghost is_default = { IsDefault };
+    ghost is_default = { IsOpen };
 
-    /// Four tables of six columns, and parts of 2,048 columns. The tables of a product of 2,048 columns take 64 KiB.
+    /// Nothing is asked for.
     fn default() -> How {
         How {
-            algo: Algo::Table,
-            k: 6,
-            tables: 4,
-            cutoff: 2048,
+            algo: None,
+            k: None,
+            tables: None,
+            cutoff: None,
         }
     }
 }

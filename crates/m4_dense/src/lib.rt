@@ -11,6 +11,7 @@
 //! the reduced form, inverses, solutions, the kernel and the factors, are there over GF(2).
 #![tactic(auto)]
 
+mod chosen;
 mod engine;
 mod equal;
 mod factors;
@@ -18,6 +19,7 @@ mod how;
 mod listed;
 mod pivots;
 mod products;
+
 mod shapes;
 mod systems;
 
@@ -26,8 +28,9 @@ pub use factors::{PleFactors, PluqFactors, ple, pluq};
 pub use how::How;
 pub use listed::{from_digits, from_words};
 pub use m4_field::{Field, FieldFault};
-pub use m4_model::{Algo, NoMemory};
-pub use m4_mzd::{Mzd, Rect};
+pub use m4_model::{Algo, LEAST_CUTOFF, MOST_CUTOFF, NoMemory};
+pub use m4_mul::{MOST_K, MOST_TABLES};
+pub use m4_mzd::{MOST_SIDE, Mzd, Rect};
 pub use m4_mzed::Mzed;
 pub use m4_perm::Perm;
 pub use pivots::{PivotForm, pivot_form};

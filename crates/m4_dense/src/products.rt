@@ -7,11 +7,13 @@ ghost use Rattle.m4_model.specs.Outcome.{HasRoom, with_product};
 ghost use Rattle.m4_model.specs.Shapes.{cut, replace};
 ghost use Rattle.m4_mzd.specs.Reach.{IsReached};
 ghost use Rattle.m4_mzd.specs.Rectangles.{IsInside};
+ghost use Rattle.m4_dense.specs.Engine.{can_multiply, engine_limits};
 
+use crate::chosen::Chosen;
 use crate::engine::Engine;
 use crate::how::How;
 use m4_model::NoMemory;
-use m4_mzd::Rect;
+use m4_mzd::{Rect, Shape};
 use m4_mzed::Mzed;
 use m4_newton::{EAddMul, EPlain, OverBits};
 use std::alloc::Global;
@@ -19,7 +21,7 @@ use std::alloc::Global;
 /// The product of an m x l matrix `a` and an l x n matrix `b` over the same field: an m x n matrix.
 ///
 /// It takes memory for the product. Over GF(2), with tables, these take `tables * 2^k` rows of the product's length
-/// besides, and past 2,048 columns a part of the product is worked in room of its own, of at most 5.5 MiB.
+/// besides, and past 2,048 columns a part of the product is worked in room of its own, of at most 3 MiB.
 ///
 /// Over GF(2) the tables hold the sums of `k` rows of `b`: Albrecht, Bard and Hart, Efficient multiplication of dense
 /// matrices over GF(2), ACM Transactions on Mathematical Software 37, 2010; without them, and over other fields, m l
@@ -32,11 +34,24 @@ pub fn product(alloc: Global, how: How, a: &Mzed, b: &Mzed) -> Result<Mzed, NoMe
     let _rows = a.rows();
     let _rows_of_b = b.rows();
     if a.field().e() == 1 {
-        let engine = Engine::new(alloc, how, b.cols())?;
+        let engine = product_engine(alloc, how, a, b)?;
         product_by(alloc, &mut OverBits { engine }, a, b)
     } else {
         product_by(alloc, &mut EPlain, a, b)
     }
+}
+
+/// The engine that is asked for, for the product of these matrices of bits.
+fn product_engine(alloc: Global, how: How, a: &Mzed, b: &Mzed) -> Result<Engine, NoMemory>
+    ensures ready { IfOk result can_multiply }
+    ensures reached { IfOk result (λ engine. IsReached (engine_limits engine) a.now.rows a.now.cols b.now.cols) }
+{
+    let shape = Shape {
+        m: a.rows(),
+        l: a.cols(),
+        n: b.cols(),
+    };
+    Engine::new(alloc, Chosen::for_product(how, shape), shape)
 }
 
 /// The product of two matrices by an engine.
@@ -88,7 +103,7 @@ pub fn add_product(
         c1: col + b.cols(),
     };
     if c.field().e() == 1 {
-        let engine = Engine::new(alloc, how, b.cols())?;
+        let engine = product_engine(alloc, how, a, b)?;
         add_product_by(&mut OverBits { engine }, c, rect, a, b);
     } else {
         add_product_by(&mut EPlain, c, rect, a, b);

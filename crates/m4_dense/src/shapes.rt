@@ -8,7 +8,7 @@ ghost use Rattle.m4_mzd.specs.Rectangles.{IsInside};
 
 use m4_eshape::{eadd_into, eaugment, estack, esub, etranspose};
 use m4_model::NoMemory;
-use m4_mzd::Rect;
+use m4_mzd::{MOST_SIDE, Rect};
 use m4_mzed::Mzed;
 use std::alloc::Global;
 
@@ -42,7 +42,7 @@ pub fn add_into(a: &mut Mzed, b: &Mzed)
 /// Over GF(2) the matrix is halved until its parts suit each cache, and turned there in blocks of 64 x 64 bits; over other
 /// fields it is turned entry by entry.
 pub fn transpose(alloc: Global, a: &Mzed) -> Result<Mzed, NoMemory>
-    requires few_bits { a.now.rows * width a.now.field ≤ 2 ^ 24 }
+    requires few_bits { a.now.rows * width a.now.field ≤ MOST_SIDE }
     ensures { IfOk result (λ m. m ≡ transposed a.now) }
 {
     let _cols = a.cols();
@@ -54,7 +54,7 @@ pub fn transpose(alloc: Global, a: &Mzed) -> Result<Mzed, NoMemory>
 pub fn stack(alloc: Global, a: &Mzed, b: &Mzed) -> Result<Mzed, NoMemory>
     requires same_field { b.now.field ≡ a.now.field }
     requires same_cols { b.now.cols ≡ a.now.cols }
-    requires few_rows { a.now.rows + b.now.rows ≤ 2 ^ 24 }
+    requires few_rows { a.now.rows + b.now.rows ≤ MOST_SIDE }
     ensures { IfOk result (λ m. m ≡ above a.now b.now) }
 {
     estack(alloc, &a.all(), &b.all())
@@ -65,7 +65,7 @@ pub fn stack(alloc: Global, a: &Mzed, b: &Mzed) -> Result<Mzed, NoMemory>
 pub fn augment(alloc: Global, a: &Mzed, b: &Mzed) -> Result<Mzed, NoMemory>
     requires same_field { b.now.field ≡ a.now.field }
     requires same_rows { b.now.rows ≡ a.now.rows }
-    requires few_bits { (a.now.cols + b.now.cols) * width a.now.field ≤ 2 ^ 24 }
+    requires few_bits { (a.now.cols + b.now.cols) * width a.now.field ≤ MOST_SIDE }
     ensures { IfOk result (λ m. m ≡ beside a.now b.now) }
 {
     eaugment(alloc, &a.all(), &b.all())

@@ -6,6 +6,7 @@ ghost use Rattle.m4_model.specs.Forms.{IsReduced, IsKernel};
 ghost use Rattle.m4_model.specs.Rank.{IsRank};
 ghost use Rattle.m4_dense.specs.Answers.{TellsInverse, TellsSolution};
 
+use m4_mzd::MOST_SIDE;
 use crate::engine::context;
 use crate::how::How;
 use m4_model::NoMemory;
@@ -47,7 +48,7 @@ pub fn reduced_form(alloc: Global, how: How, a: Mzed) -> Result<Mzed, NoMemory>
 pub fn inverse(alloc: Global, how: How, a: &Mzed) -> Result<Option<Mzed>, NoMemory>
     requires over_gf2 { a.now.field ≡ gf2 }
     requires square { a.now.cols ≡ a.now.rows }
-    requires few_cols { a.now.cols + a.now.cols ≤ 2 ^ 24 }
+    requires few_cols { a.now.cols + a.now.cols ≤ MOST_SIDE }
     ensures { IfOk result (TellsInverse a.now) }
 {
     let bits = a.all().into_bits();
@@ -67,7 +68,7 @@ pub fn solution(alloc: Global, how: How, a: &Mzed, b: &Mzed) -> Result<Option<Mz
     requires over_gf2 { a.now.field ≡ gf2 }
     requires same_field { b.now.field ≡ a.now.field }
     requires same_rows { b.now.rows ≡ a.now.rows }
-    requires few_cols { a.now.cols + b.now.cols ≤ 2 ^ 24 }
+    requires few_cols { a.now.cols + b.now.cols ≤ MOST_SIDE }
     ensures { IfOk result (TellsSolution a.now b.now) }
 {
     let left = a.all().into_bits();

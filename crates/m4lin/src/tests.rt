@@ -116,11 +116,12 @@ fn assert_case(rt: &impl Abort, alloc: Global, case: Case<'_>) -> Result<(), NoM
 }
 
 /// Options that choose how products are computed.
-const ENGINES: [&[&str]; 4] = [
+const ENGINES: [&[&str]; 5] = [
     &[],
     &["--algo=plain"],
     &["--algo=table", "--k=1", "--tables=8"],
-    &["--tables=1", "--k=8"],
+    &["--tables=1", "--k=8", "--cutoff=64"],
+    &["--algo=strassen", "--cutoff=64"],
 ];
 
 /// This head, the same piece so many times, and the end of the last line.
@@ -226,7 +227,7 @@ fn products_that_are_not_added(rt: HostRuntime) -> Result<(), Fail> {
 }
 
 /// Words that are refused, and the number of the first.
-const REFUSED_WORDS: [(&[&str], u64); 24] = [
+const REFUSED_WORDS: [(&[&str], u64); 25] = [
     (&[], 1),
     (&["multiply", "A", "B"], 1),
     (&["--in=text", "mul", "A", "B"], 1),
@@ -237,7 +238,8 @@ const REFUSED_WORDS: [(&[&str], u64); 24] = [
     (&["mul", "--k=08", "A", "B"], 2),
     (&["mul", "A", "B", "--k=4", "--k=4"], 5),
     (&["mul", "A", "B", "--tables=0"], 4),
-    (&["mul", "A", "B", "--algo=strassen"], 4),
+    (&["mul", "A", "B", "--algo=fast"], 4),
+    (&["mul", "A", "B", "--cutoff=63"], 4),
     (&["mul", "A", "B", "--in=text", "--in=text"], 5),
     (
         &["mul", "--out=bare", "A", "--in=bare", "--out=jcf", "B"],
