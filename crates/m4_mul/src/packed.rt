@@ -12,11 +12,12 @@ use std::marker::Model;
 /// The bits of a word.
 const WORD: u32 = 64;
 
-/// The most rows of a block, the most words of its columns, and the words of a panel, that the engine takes: such a block
-/// has four megabytes, its eight tables of `2^8` entries one, and the panel half of one.
+/// The most rows of a block, the most words of its columns, and the words of a panel, that the engine takes. Such a block
+/// has two megabytes, the panel half of one, and so have the eight tables of `2^8` entries, which then stay in a second-level
+/// cache of one megabyte.
 const BLOCK_ROWS: u32 = 8192;
 
-const BLOCK_WORDS: u32 = 64;
+const BLOCK_WORDS: u32 = 32;
 
 const PANEL_WORDS: u32 = 8;
 
