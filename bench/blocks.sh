@@ -4,11 +4,13 @@
 #
 #     bench/blocks.sh [SIZE ..]
 #
-# Sizes are 1024, 2048, 4096 and 8192 where none is named. A line has a name, the size, and the least milliseconds of elapsed
-# time of five rounds. The program is made in a copy of the crates, which is removed at the end.
+# Sizes are 1024, 2048, 4096 and 8192 where none is named, and TABLES in the environment says which tables: 8x8 for eight tables of
+# 2^8 entries, which is taken where it isn't set, or several of these. A line has a name, the size, and the least milliseconds of
+# elapsed time of five rounds. The program is made in a copy of the crates, which is removed at the end.
 set -eu
 top=$(cd "$(dirname "$0")/.." && pwd)
 sizes=${*:-1024 2048 4096 8192}
+tables=${TABLES:-8x8}
 folder=$(mktemp -d)
 trap 'rm -r "$folder"' EXIT
 
@@ -25,6 +27,7 @@ for name in m4_model m4_area m4_bits m4_mzd m4_gray m4_mul; do
 done
 echo 'bench_blocks: m4_model m4_mzd m4_mul' >> crates.txt
 list=$(echo $sizes | sed 's/ /, /g')
+pairs=$(echo $tables | sed 's/\([0-9]*\)x\([0-9]*\)/(\1, \2),/g')
 cat > crates/bench_blocks/src/main.rt <<PROGRAM
 //! Times products: a line with a name, a size and a number of nanoseconds for each round.
 #![tactic(auto)]
@@ -39,6 +42,8 @@ use std::time::Instant;
 
 const SIZES: &[u32] = &[$list];
 
+const TABLES: &[(u32, u32)] = &[$pairs];
+
 PROGRAM
 cat >> crates/bench_blocks/src/main.rt <<'PROGRAM'
 /// The factors and the sum of a product, and its engine.
@@ -51,12 +56,12 @@ struct Product {
 }
 
 impl Product {
-    fn new(alloc: Global, size: u32) -> Result<Product, NoMemory> {
+    fn new(alloc: Global, size: u32, (k, tables): (u32, u32)) -> Result<Product, NoMemory> {
         let size = size.min(1 << 24);
         let a = mixed(alloc, size, size, 1)?;
         let b = mixed(alloc, size, size, 2)?;
         let c = mixed(alloc, size, size, 3)?;
-        let table = Table::new(alloc, size, 8, 8)?;
+        let table = Table::new(alloc, size, k.min(8).max(1), tables.min(8).max(1))?;
         Ok(Product { a, b, c, table })
     }
 
@@ -76,20 +81,27 @@ impl Product {
     }
 }
 
-fn rounds<R: Runtime>(rt: &R, size: u32, product: &mut Product) -> io::Result<()> {
+fn rounds<R: Runtime>(
+    rt: &R,
+    size: u32,
+    (k, tables): (u32, u32),
+    product: &mut Product,
+) -> io::Result<()> {
     for _ in 0..5 {
         let start = Instant::now(rt)?;
         product.add();
         let took = start.elapsed(rt)?;
-        println!(rt; "Table_{} {}", size, took.as_nanos())?;
+        println!(rt; "Table_{}_{}x{} {}", size, k, tables, took.as_nanos())?;
     }
     Ok(())
 }
 
 fn main(rt: HostRuntime) -> io::Result<()> {
     for size in SIZES {
-        if let Ok(mut product) = Product::new(rt.alloc(), *size) {
-            rounds(&rt, *size, &mut product)?;
+        for sizes in TABLES {
+            if let Ok(mut product) = Product::new(rt.alloc(), *size, *sizes) {
+                rounds(&rt, *size, *sizes, &mut product)?;
+            }
         }
     }
     Ok(())
