@@ -12,12 +12,12 @@ use Rattle.m4_strassen.proofs.sums.add_both.Goals as goal
 pub loop-r-init : goal.loop-r-init
 loop-r-init c = record { so_far = refl; all = c.rows-r-end.ensures.rows }
 
-pub add_row_of_both-requires : goal.add_row_of_both-requires
-add_row_of_both-requires c = rw c.loop-r.invariant.so_far (record {
+pub add_both-requires : goal.add_both-requires
+add_both-requires c = rw c.loop-r.invariant.so_far (record {
   in_rows = omega (arith, c.rows-r-end.ensures.rows, c.loop-r-test.true);
   in_a = omega (arith, c.rows-r-end.ensures.rows, c.requires.rows, c.loop-r-test.true);
   in_b = omega (arith, c.rows-r-end.ensures.rows, c.requires.other_rows, c.loop-r-test.true);
-  cols = c.requires.cols;
+  same_cols = c.requires.cols;
   other_cols = c.requires.other_cols;
 })
 
@@ -31,10 +31,10 @@ loop-r-preserved c =
     let sum = HasShape-added (HasShape-own C c.rows-r-end.ensures.shape.matrix) (record { is_matrix = c.rows-rows.ensures.matrix; over = refl; rows = c.requires.rows; cols = c.requires.cols }) in
     let many : length S.entries ≡ c.args.dst.now.rows = length-table C.rows C.cols (λ i j. bit_xor (at (added C A) i j) (at B i j)) in
     record {
-      so_far = row_step c.args.dst.now c.loop-r.dst c.add_row_of_both.new.dst S.entries r (λ xs. row_sum (row_sum xs (row A r)) (row B r))
+      so_far = row_step c.args.dst.now c.loop-r.dst c.add_both.new.self S.entries r (λ xs. row_sum (row_sum xs (row A r)) (row B r))
           (omega (arith, many, c.rows-r-end.ensures.rows, c.loop-r-test.true))
           (omega (arith, c.rows-r-end.ensures.shape.matrix.height, c.rows-r-end.ensures.rows, c.loop-r-test.true))
-          c.loop-r.invariant.so_far c.add_row_of_both.ensures
+          c.loop-r.invariant.so_far c.add_both.ensures
           (ap (λ xs. row_sum xs (row B r)) (row_of_sum C A r c.rows-r-end.ensures.shape.matrix c.rows-rows.ensures.matrix c.requires.rows c.requires.cols
           (omega (arith, c.rows-r-end.ensures.rows, c.loop-r-test.true)))
           ∙ row_of_sum (added C A) B r sum.is_matrix c.rows-rows_of_b.ensures.matrix c.requires.other_rows c.requires.other_cols
