@@ -1,101 +1,152 @@
--- A matrix that is turned entry by entry.
-use Rattle.std.proofs.Common.{◌≡◌, ◌≢◌, ℕ, ◌+◌, ◌<◌, ◌≤◌, inl, inr, true, false, Bool, cond, ◌&&◌, ◌||◌, nat_lt, nat_eq, refl, sym, ◌∙◌, ap, ap₂, arith}
-use Rattle.std.proofs.lemmas.Bool.{cases_lt, cases_eq, lt-ltb, le-ltb, eq-eqb, ne_eqb, cond-true, cond-false}
-use Rattle.m4_model.specs.Matrix.{Matrix, at, with_entry, zero_matrix}
+-- A matrix that is turned over its diagonal, by halves and by blocks.
+use Rattle.std.proofs.Common.{◌≡◌, ℕ, ◌+◌, ◌-◌, ◌*◌, ◌/◌, ◌%◌, ◌<◌, ◌≤◌, List, [], ◌++◌, take, drop, map, refl, sym, ◌∙◌, ap, ap₂, subst, arith, mod-eq_of_lt}
+use Rattle.std.specs.Int.{bit_at}
+use Rattle.std.specs.Simd.Lanes.{zip2}
+use Rattle.std.proofs.Math.Nat.{mul-add-mod_self_right, zero-mod}
+use Rattle.std.proofs.lemmas.Nat.{div-mul-add}
+use Rattle.std.proofs.lemmas.List.{take-append-drop}
+use Rattle.m4_model.specs.Field.{Field, IsElement, gf2, width}
+use Rattle.m4_model.specs.Matrix.{Matrix, IsMatrix, at, matrix_of}
 use Rattle.m4_model.specs.Shapes.{transposed}
-use Rattle.m4_model.proofs.MatrixLemmas.{at-table, same_matrix, length-table, length-row-table}
-use Rattle.m4_mzd.proofs.RowLemmas.{with_entry-matrix_of}
-use Rattle.m4_eshape.specs.Turned.{turned}
+use Rattle.m4_model.proofs.MatrixLemmas.{at-table}
+use Rattle.m4_mzd.specs.Window.{Window, IsWindow}
+use Rattle.m4_mzd.specs.Window.{content as bit_content, showing as bit_showing}
+use Rattle.m4_field.proofs.WidthLemmas.{width_facts}
+use Rattle.m4_mzed.specs.EWindow.{EWindow, content, showing}
+use Rattle.m4_mzed.specs.Owned.{e_matrix}
+use Rattle.m4_mzed.specs.Packed.{elements, IsPacked}
+use Rattle.m4_mzed.specs.PackedIn.{IsPackedIn}
+use Rattle.m4_mzed.proofs.EntryLemmas.{entry_element}
+use Rattle.m4_mzed.proofs.PackedSums.{Holds, next_le}
+use Rattle.m4_mzed.proofs.PairLemmas.{upper, lower, stacked}
+use Rattle.m4_mzed.proofs.PartLemmas.{same_window}
+use Rattle.m4_mzed.proofs.RectLemmas.{matrix_bit, made_packed, made_is}
+use Rattle.m4_shape.proofs.TurnLemmas.{first_rows, other_rows, first_cols, other_cols, rows_turned, cols_turned}
+use Rattle.m4_eshape.specs.Turned.{numbers_turned}
+use Rattle.m4_eshape.proofs.NumberLemmas.{turned_rows}
 
-abbrev entry : Matrix → ℕ → ℕ → ℕ → ℕ → ℕ
-entry A c r i j = cond (nat_lt i c || (nat_eq i c && nat_lt j r)) (at A j i) 0
+-- ---- by halves
+pub turned_by_cols : (w top bottom whole : EWindow) (A : Matrix) (h : ℕ) → IsMatrix A → w.rows ≡ A.cols → h ≤ A.cols
+    → top ≡ showing (upper w h) (transposed (first_cols A h)) → bottom ≡ showing (lower w h) (transposed (other_cols A h)) → whole ≡ stacked top bottom
+    → whole ≡ showing w (transposed A)
+turned_by_cols w top bottom whole A h is rows within up down joined =
+    let high : h + (w.rows - h) ≡ w.rows = omega (arith, rows, within) in
+    joined ∙ (λ i. stacked (up i) (down i))
+    ∙ same_window _ _ refl refl refl high refl (rows_turned A h is within) (take-append-drop h w.past)
 
-or_true : (a b : Bool) → b ≡ true → (a || b) ≡ true
-or_true true b is = refl
-or_true false b is = is
+-- the parts of a window beside each other, and the window that they make
+abbrev pub left_of : EWindow → ℕ → EWindow
+left_of w h = record w { cols = h; entries = map (take h) w.entries; past = map (λ _. []) w.past }
 
-and_true : (a b : Bool) → a ≡ true → b ≡ true → (a && b) ≡ true
-and_true a b first second = ap₂ (λ x y. x && y) first second
+abbrev pub right_of : EWindow → ℕ → EWindow
+right_of w h = record w { skip = w.skip + h * width w.field / 64; cols = w.cols - h; entries = map (drop h) w.entries }
 
-and_false : (a b : Bool) → b ≡ false → (a && b) ≡ false
-and_false true b is = is
-and_false false b is = refl
+abbrev pub side_by_side : EWindow → EWindow → EWindow
+side_by_side a b = record a { cols = a.cols + b.cols; entries = zip2 (λ l r. l ++ r) a.entries b.entries; past = b.past }
 
-or_false : (a b : Bool) → a ≡ false → (a || b) ≡ b
-or_false a b is = ap (λ x. x || b) is
+pub turned_by_rows : (w left right whole : EWindow) (A : Matrix) (h : ℕ) → IsMatrix A → w.cols ≡ A.rows → h ≤ A.rows
+    → left ≡ showing (left_of w h) (transposed (first_rows A h)) → right ≡ showing (right_of w h) (transposed (other_rows A h)) → whole ≡ side_by_side left right
+    → whole ≡ showing w (transposed A)
+turned_by_rows w left right whole A h is cols within one other joined =
+    let wide : h + (w.cols - h) ≡ w.cols = omega (arith, cols, within) in
+    joined ∙ (λ i. side_by_side (one i) (other i)) ∙ same_window _ _ refl refl refl refl wide (cols_turned A h is within) refl
 
-or_left : (a b : Bool) → a ≡ true → (a || b) ≡ true
-or_left a b is = ap (λ x. x || b) is
+-- the border after some blocks
+pub whole_blocks : (x s : ℕ) → x * s % s ≡ 0
+whole_blocks x s =
+    let e : x * s ≡ x * s + 0 = omega arith in
+    ap (λ y. y % s) e ∙ mul-add-mod_self_right x s 0 ∙ zero-mod s
 
-and_left_false : (a b : Bool) → a ≡ false → (a && b) ≡ false
-and_left_false a b is = ap (λ x. x && b) is
+-- ---- by blocks: what is known where the bits of a window were turned, over plain variables
+pub record WereTurned (F : Field) (n k : ℕ) (x dst : EWindow) (W N : Window) (B R : Matrix) : Type 0 where
+  pub whole : x ≡ dst
+  pub packed : IsPacked x.field x.cols W
+  pub shows : elements x.field x.cols W ≡ x
+  pub field_is : F ≡ dst.field
+  pub cols_is : n ≡ dst.cols
+  pub shape : IsWindow W
+  pub new_shape : IsWindow N
+  pub source : IsPackedIn B.field B.cols R
+  pub source_matrix : IsMatrix R
+  pub source_over : R.field ≡ gf2
+  pub source_shows : e_matrix B.field B.cols R ≡ B
+  pub same_field : dst.field ≡ B.field
+  pub rows : dst.rows ≡ B.cols
+  pub cols : dst.cols ≡ B.rows
+  pub width_is : k ≡ width F
+  pub kept : N ≡ bit_showing W (numbers_turned k R)
 
--- whether an entry is turned, by cases
-test_before : (c r i j : ℕ) → i < c → (nat_lt i c || (nat_eq i c && nat_lt j r)) ≡ true
-test_before c r i j less = or_left _ _ (lt-ltb i c less)
+module _ (F : Field) (n k : ℕ) (x dst : EWindow) (W N : Window) (B R : Matrix) (g : WereTurned F n k x dst W N B R) where
+  kept : N ≡ bit_showing W (numbers_turned (width F) R)
+  kept = g.kept ∙ ap (λ w. bit_showing W (numbers_turned w R)) g.width_is
 
-test_here : (c r i j : ℕ) → i ≡ c → j < r → (nat_lt i c || (nat_eq i c && nat_lt j r)) ≡ true
-test_here c r i j here less = or_true (nat_lt i c) _ (and_true _ _ (eq-eqb i c here) (lt-ltb j r less))
+  over : x.field ≡ F
+  over = ap (λ (v : EWindow). v.field) g.whole ∙ sym g.field_is
 
-test_later : (c r i j : ℕ) → i ≡ c → r ≤ j → (nat_lt i c || (nat_eq i c && nat_lt j r)) ≡ false
-test_later c r i j here more = or_false _ _ (le-ltb i c (omega (arith, here))) ∙ and_false (nat_eq i c) _ (le-ltb j r more)
+  count : x.cols ≡ n
+  count = ap (λ (v : EWindow). v.cols) g.whole ∙ sym g.cols_is
 
-test_behind : (c r i j : ℕ) → c < i → (nat_lt i c || (nat_eq i c && nat_lt j r)) ≡ false
-test_behind c r i j more = or_false _ _ (le-ltb i c (omega (arith, more))) ∙ and_left_false _ _ (ne_eqb i c (λ is. omega (arith, is, more)))
+  packed : IsPacked F n W
+  packed =
+      let P : Field → Type 0 = λ H. IsPacked H x.cols W in
+      let Q : ℕ → Type 0 = λ k. IsPacked F k W in
+      subst Q count (subst P over g.packed)
 
--- the same test before and after
-same_test : (c r i j : ℕ) → (i ≢ c) → (nat_lt i c || (nat_eq i c && nat_lt j r)) ≡ (nat_lt i c || (nat_eq i c && nat_lt j (r + 1)))
-same_test c r i j away = elim (cases_lt i c) [
-  | inl less ↦ test_before c r i j less ∙ sym (test_before c (r + 1) i j less)
-  | inr more ↦ test_behind c r i j (omega (arith, away, more)) ∙ sym (test_behind c (r + 1) i j (omega (arith, away, more)))
-]
+  source_field : B.field ≡ F
+  source_field = sym g.same_field ∙ sym g.field_is
 
-same_place : (c r j : ℕ) → (j ≢ r) → (nat_lt c c || (nat_eq c c && nat_lt j r)) ≡ (nat_lt c c || (nat_eq c c && nat_lt j (r + 1)))
-same_place c r j away = elim (cases_lt j r) [
-  | inl less ↦ test_here c r c j refl less ∙ sym (test_here c (r + 1) c j refl (omega (arith, less)))
-  | inr more ↦ test_later c r c j refl more ∙ sym (test_later c (r + 1) c j refl (omega (arith, away, more)))
-]
+  source : IsPackedIn F B.cols R
+  source = let P : Field → Type 0 = λ H. IsPackedIn H B.cols R in subst P source_field g.source
 
--- one entry more
-pub turned_more : (A : Matrix) (c r v : ℕ) → c < A.cols → r < A.rows → v ≡ at A r c → with_entry (turned A c r) c r v ≡ turned A c (r + 1)
-turned_more A c r v in_cols in_rows is =
-    sym (with_entry-matrix_of A.field A.cols A.rows (entry A c r) (entry A c (r + 1)) c r v in_cols in_rows
-    (cond-true _ (at A r c) 0 (test_here c (r + 1) c r refl (omega arith)) ∙ sym is)
-    (λ i j below within away. ap (λ b. cond b (at A j i) 0) (sym (elim (cases_eq i c) [
-      | inl here ↦
-          let off : j ≢ r = λ there. away here there in
-          ap (λ k. nat_lt k c || (nat_eq k c && nat_lt j r)) here ∙ same_place c r j off ∙ ap (λ k. nat_lt k c || (nat_eq k c && nat_lt j (r + 1))) (sym here)
-      | inr other ↦ same_test c r i j other
-    ]))))
+  source_rows : R.rows ≡ n
+  source_rows = ap (λ (M : Matrix). M.rows) g.source_shows ∙ sym g.cols ∙ sym g.cols_is
 
--- all of a column
-pub turned_column : (A : Matrix) (c r : ℕ) → A.rows ≤ r → turned A c r ≡ turned A (c + 1) 0
-turned_column A c r all =
-    same_matrix A.field A.cols A.rows (entry A (c + 1) 0) (turned A c r) refl refl refl (length-table A.cols A.rows (entry A c r)) (length-row-table A.cols A.rows (entry A c r))
-    (λ i j below within. at-table A.cols A.rows (entry A c r) i j below within ∙ ap (λ b. cond b (at A j i) 0) (elim (cases_lt i c) [
-      | inl less ↦ test_before c r i j less ∙ sym (test_before (c + 1) 0 i j (omega (arith, less)))
-      | inr more ↦ elim (cases_eq i c) [
-        | inl here ↦ test_here c r i j here (omega (arith, within, all)) ∙ sym (test_before (c + 1) 0 i j (omega (arith, here)))
-        | inr away ↦ test_behind c r i j (omega (arith, away, more)) ∙ sym (after i j (omega (arith, away, more)))
-      ]
-    ]))
-  where
-    after : (i j : ℕ) → c < i → (nat_lt i (c + 1) || (nat_eq i (c + 1) && nat_lt j 0)) ≡ false
-    after i j more = elim (cases_eq i (c + 1)) [
-      | inl here ↦ test_later (c + 1) 0 i j here (omega arith)
-      | inr away ↦ test_behind (c + 1) 0 i j (omega (arith, away, more))
-    ]
+  old_rows : W.rows ≡ B.cols
+  old_rows = ap (λ (v : EWindow). v.rows) (g.shows ∙ g.whole) ∙ g.rows
 
--- none, and all columns
-pub turned_none : (A : Matrix) → zero_matrix A.field A.cols A.rows ≡ turned A 0 0
-turned_none A =
-    sym (same_matrix A.field A.cols A.rows (λ i j. 0) (turned A 0 0) refl refl refl (length-table A.cols A.rows (entry A 0 0)) (length-row-table A.cols A.rows (entry A 0 0))
-    (λ i j below within. at-table A.cols A.rows (entry A 0 0) i j below within ∙ cond-false _ (at A j i) 0 (elim (cases_eq i 0) [
-      | inl here ↦ test_later 0 0 i j here (omega arith)
-      | inr away ↦ test_behind 0 0 i j (omega (arith, away))
-    ])))
+  new_rows : N.rows ≡ B.cols
+  new_rows = ap (λ (v : Window). v.rows) g.kept ∙ old_rows
 
-pub turned_all : (A : Matrix) (c : ℕ) → A.cols ≤ c → turned A c 0 ≡ transposed A
-turned_all A c all =
-    same_matrix A.field A.cols A.rows (λ i j. at A j i) (turned A c 0) refl refl refl (length-table A.cols A.rows (entry A c 0)) (length-row-table A.cols A.rows (entry A c 0))
-    (λ i j below within. at-table A.cols A.rows (entry A c 0) i j below within ∙ cond-true _ (at A j i) 0 (test_before c 0 i j (omega (arith, below, all))))
+  new_wide : N.cols ≡ n * width F
+  new_wide = ap (λ (v : Window). v.cols) g.kept ∙ packed.wide
+
+  -- entry j of row i is entry i of row j
+  abbrev entry : ℕ → ℕ → ℕ
+  entry i j = at (e_matrix F B.cols R) j i
+
+  small : (i j : ℕ) → i < N.rows → j < n → IsElement F (entry i j)
+  small i j below within = entry_element F B.cols R source j i (omega (arith, within, source_rows))
+
+  many_rows : R.cols / width F ≡ B.cols
+  many_rows = turned_rows (width F) B.cols R.cols (width_facts F packed.carried).some (sym source.wide)
+
+  bits : (i j v : ℕ) → i < N.rows → j < n → v < width F → at (bit_content N) i (j * width F + v) ≡ bit_at (entry i j) v
+  bits i j v below within v_below =
+      let w = width F in
+      let in_row : j * w + v < R.rows * w = (let m = next_le j R.rows w (omega (arith, within, source_rows)) in omega (arith, m, v_below)) in
+      let i_below : i < B.cols = omega (arith, below, new_rows) in
+      ap (λ (y : Window). at (bit_content y) i (j * w + v)) kept
+      ∙ at-table (R.cols / w) (R.rows * w) (λ i p. at R (p / w) (i * w + p % w)) i (j * w + v) (omega (arith, i_below, many_rows)) in_row
+      ∙ ap₂ (λ q u. at R q (i * w + u)) (div-mul-add j w v v_below) (mul-add-mod_self_right j w v ∙ mod-eq_of_lt v_below)
+      ∙ matrix_bit F B.cols R source g.source_matrix g.source_over j i v (omega (arith, within, source_rows)) i_below v_below
+
+  new_over : (bit_content N).field ≡ gf2
+  new_over = refl
+
+  pub turned_packed : IsPacked F n N
+  turned_packed =
+      let q = made_packed F packed.carried n (bit_content N) entry g.new_shape.matrix new_over new_wide small bits in
+      record { carried = q.carried; wide = q.wide; count = q.count; packed = q.packed }
+
+  pub turned_elements : elements F n N ≡ showing dst (transposed B)
+  turned_elements =
+      let made = made_is F packed.carried n (bit_content N) entry g.new_shape.matrix new_over new_wide small bits in
+      let source_is : e_matrix F B.cols R ≡ B = ap (λ (H : Field). e_matrix H B.cols R) (sym source_field) ∙ g.source_shows in
+      let entries : (elements F n N).entries ≡ (transposed B).entries =
+      ap (λ (M : Matrix). M.entries) made
+      ∙ ap₂ (λ r c. (matrix_of F r c (λ i j. at (e_matrix F B.cols R) j i)).entries) new_rows (sym source_rows)
+      ∙ ap (λ (M : Matrix). (transposed M).entries) source_is in
+      let w_is : elements F n W ≡ dst = ap₂ (λ (H : Field) (k : ℕ). elements H k W) (sym over) (sym count) ∙ g.shows ∙ g.whole in
+      same_window _ _ (ap (λ (v : EWindow). v.field) w_is) (ap (λ (v : Window). v.place) g.kept ∙ ap (λ (v : EWindow). v.place) w_is)
+      (ap (λ (v : Window). v.skip) g.kept ∙ ap (λ (v : EWindow). v.skip) w_is) (ap (λ (v : Window). v.rows) g.kept ∙ ap (λ (v : EWindow). v.rows) w_is)
+      (ap (λ (v : EWindow). v.cols) w_is) entries (ap (λ (v : Window). v.past) g.kept ∙ ap (λ (v : EWindow). v.past) w_is)

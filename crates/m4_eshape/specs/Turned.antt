@@ -1,7 +1,8 @@
--- A matrix that is being turned.
-use Rattle.std.specs.Prelude.{ℕ, ◌&&◌, ◌||◌, ◌==◌, nat_lt, if◌then◌else◌}
+-- Numbers of a few bits each that are packed in the rows of a matrix of bits, turned.
+use Rattle.std.specs.Prelude.{ℕ, ◌+◌, ◌*◌, ◌/◌, ◌%◌}
+use Rattle.m4_model.specs.Field.{gf2}
 use Rattle.m4_model.specs.Matrix.{Matrix, matrix_of, at}
 
--- The transpose of A as far as its first c columns, and of the next one the first r rows, are turned; 0 elsewhere.
-abbrev pub turned : Matrix → ℕ → ℕ → Matrix
-turned A c r = matrix_of A.field A.cols A.rows (λ i j. if nat_lt i c || (i == c && nat_lt j r) then at A j i else 0)
+-- Number j of row i is number i of row j, bit by bit, where each takes w bits.
+abbrev pub numbers_turned : ℕ → Matrix → Matrix
+numbers_turned w A = matrix_of gf2 (A.cols / w) (A.rows * w) (λ i p. at A (p / w) (i * w + p % w))

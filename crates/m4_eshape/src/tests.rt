@@ -72,6 +72,89 @@ fn is_cancelled(alloc: Global, field: Field) -> Result<bool, NoMemory> {
     Ok(m.get(0, 1) == 1 && sum.get(0, 1) == 0)
 }
 
+// A matrix of elements without an order.
+fn mixed(alloc: Global, field: Field, rows: u32, cols: u32) -> Result<Mzed, NoMemory>
+    requires few_rows { rows ≤ 1024 }
+    requires few_cols { cols ≤ 1024 }
+    ensures { IfOk result (λ m. (m.rows ≡ rows) × (m.cols ≡ cols) × (m.field ≡ the_field field)) }
+{
+    let _degree = field.e();
+    let mut m = Mzed::zeros(alloc, field, rows, cols)?;
+    for r in 0..rows {
+        mix_row(&mut m, r);
+    }
+    Ok(m)
+}
+
+// Writes elements without an order into a row.
+fn mix_row(m: &mut Mzed, r: u32)
+    requires { r < m.old.rows }
+    ensures rows { m.new.rows ≡ m.old.rows }
+    ensures cols { m.new.cols ≡ m.old.cols }
+    ensures field { m.new.field ≡ m.old.field }
+{
+    let field = m.field();
+    let _degree = field.e();
+    let elements = 1u32 << field.e();
+    let mut word = 0x9E37_79B9_7F4A_7C15u64 ^ u64::from(r);
+    for c in 0..m.cols() {
+        word ^= word << 13;
+        word ^= word >> 7;
+        word ^= word << 17;
+        m.put(r, c, (word >> 40) as u32 % elements);
+    }
+}
+
+// Whether each entry of a matrix of this shape is in its place in the transpose.
+fn is_turned(alloc: Global, field: Field, rows: u32, cols: u32) -> Result<bool, NoMemory>
+    requires few_rows { rows ≤ 1024 }
+    requires few_cols { cols ≤ 1024 }
+{
+    let _width = field.width();
+    let m = mixed(alloc, field, rows, cols)?;
+    let turned = etranspose(alloc, &m.all())?;
+    for r in 0..rows {
+        if !is_row_turned(&m, &turned, r) {
+            return Ok(false);
+        }
+    }
+    Ok(true)
+}
+
+// Whether a row is a column of the other matrix.
+fn is_row_turned(m: &Mzed, turned: &Mzed, r: u32) -> bool
+    requires in_rows { r < m.now.rows }
+    requires cols { turned.now.cols ≡ m.now.rows }
+    requires rows { turned.now.rows ≡ m.now.cols }
+{
+    for c in 0..m.cols() {
+        if turned.get(c, r) != m.get(r, c) {
+            return false;
+        }
+    }
+    true
+}
+
+// A degree of each width, and its polynomial.
+const FIELDS: [(u32, u32); 4] = [(2, 7), (3, 0xb), (5, 0x25), (13, 0x201b)];
+
+// Shapes of one block, of several blocks, and such as are halved over and beside each other.
+const SHAPES: [(u32, u32); 6] = [(0, 3), (3, 0), (1, 70), (70, 131), (300, 3), (270, 40)];
+
+#[test]
+fn matrices_are_turned_by_blocks(rt: HostRuntime) -> Result<(), Fail> {
+    for case in &FIELDS {
+        if let Ok(field) = Field::new(case.0, case.1) {
+            for shape in &SHAPES {
+                if shape.0 <= 1024 && shape.1 <= 1024 {
+                    assert!(rt; is_turned(rt.alloc(), field, shape.0, shape.1)?);
+                }
+            }
+        }
+    }
+    Ok(())
+}
+
 #[test]
 fn matrices_are_made_of_others(rt: HostRuntime) -> Result<(), Fail> {
     assert!(rt; is_in_place(rt.alloc(), Field::gf2())?);

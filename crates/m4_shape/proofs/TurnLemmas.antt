@@ -39,7 +39,7 @@ at-other_cols A h i j is below =
     ap (λ l. get_or l j 0) (get_or-map (drop h) A.entries i [] [] (omega (arith, is.height))) ∙ get_or-drop h (row A i) j 0
 
 -- the turned columns, one part over the other
-rows_turned : (A : Matrix) (h : ℕ) → IsMatrix A → h ≤ A.cols
+pub rows_turned : (A : Matrix) (h : ℕ) → IsMatrix A → h ≤ A.cols
     → (transposed (first_cols A h)).entries ++ (transposed (other_cols A h)).entries ≡ (transposed A).entries
 rows_turned A h is within =
     let top = transposed (first_cols A h) in
@@ -72,7 +72,7 @@ turned_by_cols w top bottom whole A h is rows within up down joined =
     ∙ rejoined w h ((transposed (first_cols A h)).entries ++ (transposed (other_cols A h)).entries) (transposed A).entries (omega arith) (rows_turned A h is within)
 
 -- the turned rows, one part beside the other
-cols_turned : (A : Matrix) (h : ℕ) → IsMatrix A → h ≤ A.rows
+pub cols_turned : (A : Matrix) (h : ℕ) → IsMatrix A → h ≤ A.rows
     → zip2 (λ l r. l ++ r) (transposed (first_rows A h)).entries (transposed (other_rows A h)).entries ≡ (transposed A).entries
 cols_turned A h is within =
     let left = transposed (first_rows A h) in
