@@ -163,13 +163,13 @@ exchange-side r s i order (inr from) = inr (from, exchange_elim (λ _ k. r ≤ k
 
 module _ {F : Field} {m n : ℕ} (W : Matrix) (w : HasShape F m n W) (r s : ℕ) (first : r < m) (second : s < m) where
   -- the entries after the exchange
-  at-swapped : (i j : ℕ) → at (with_swapped W r s) i j ≡ at W (exchange r s i) j
+  pub at-swapped : (i j : ℕ) → at (with_swapped W r s) i j ≡ at W (exchange r s i) j
   at-swapped i j =
       let height = w.is_matrix.height in
       let rows = w.rows in
       ap (λ (xs : List ℕ). get_or xs j 0) (row_swap W.entries r s i (omega (arith, first, height, rows)) (omega (arith, second, height, rows)))
 
-  HasShape-swapped : HasShape F m n (with_swapped W r s)
+  pub HasShape-swapped : HasShape F m n (with_swapped W r s)
   HasShape-swapped =
       let height = w.is_matrix.height in
       let rows = w.rows in
@@ -278,7 +278,7 @@ IsElement-cleared {F} {m} {n} V v r c i j first below within =
     from_tests false false false true own one none sum = own
     from_tests false false false false own one none sum = sum
 
-HasShape-cleared : {F : Field} {m n : ℕ} (V : Matrix) → HasShape F m n V → (r c k : ℕ) → r < m → HasShape F m n (cleared r c k V)
+pub HasShape-cleared : {F : Field} {m n : ℕ} (V : Matrix) → HasShape F m n V → (r c k : ℕ) → r < m → HasShape F m n (cleared r c k V)
 HasShape-cleared {F} {m} {n} V v r c k first =
     let rows = v.rows in
     at_shape v (λ F m n. HasShape F m n (cleared r c k V))

@@ -5,3 +5,4 @@ pub mod FactorParts
 pub mod RowByRow
 pub mod Echelons
 pub mod Eliminated
+pub mod WordLemmas

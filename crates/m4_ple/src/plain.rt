@@ -41,7 +41,7 @@ pub fn ple_plain(a: &mut WinMut, p: &mut [u32], q: &mut [u32]) -> u32
 }
 
 /// Puts each place's number there.
-fn number(p: &mut [u32])
+pub(crate) fn number(p: &mut [u32])
     requires { length p.old < 2 ^ 32 }
     ensures { p.new ≡ range_with_len 0 (length p.old) }
 {
