@@ -4,3 +4,4 @@ pub mod TableLemmas
 pub mod MoveLemmas
 pub mod HalvesLemmas
 pub mod PivotLemmas
+pub mod GatherLemmas

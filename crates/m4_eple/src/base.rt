@@ -1,11 +1,12 @@
 //! What factors the windows that are not halved.
 
-ghost use Rattle.std.specs.Prelude.{◌≡◌, ◌⊎◌, ℕ, ◌≤◌, ◌<◌, length, take, slice_index};
+ghost use Rattle.std.specs.Prelude.{◌≡◌, ◌⊎◌, ℕ, ◌%◌, ◌≤◌, ◌<◌, length, take, slice_index};
 ghost use Rattle.m4_model.specs.Shapes.{swaps};
 ghost use Rattle.m4_mzed.specs.EWindow.{content, showing};
 ghost use Rattle.m4_perm.specs.Perm.{AreSwaps};
 ghost use Rattle.m4_ple.specs.Held.{HoldsPle};
 
+use m4_mzd::MOST_SIDE;
 use m4_mzed::EWinMut;
 
 /// What factors a window as P L E in its own place, where it is not halved.
@@ -14,6 +15,15 @@ pub trait Base {
 
     // Whether it factors windows over this field.
     ghost IsFor: { Self → Field → Type 0 };
+
+    /// How many columns it takes at once, a multiple of 64, where a window is cut into strips: as many as a matrix may have
+    /// where there is no better number.
+    fn strip(&self) -> u32
+        ensures some { 64 ≤ result }
+        ensures whole_words { result % 64 ≡ 0 }
+    {
+        MOST_SIDE
+    }
 
     /// Factors the window as P L E in its own place, and answers its rank r.
     ///

@@ -14,6 +14,9 @@ use m4_mzed::{EWin, EWinMut};
 use m4_newton::EAddMul;
 use m4_trsm::solve_lower_left;
 
+/// The most rows of a triangle that is solved row by row: a larger one is halved, so that most of the work is products.
+const BY_ROWS: u32 = 256;
+
 /// Brings the right columns up to the left ones, whose first `r` columns hold L: their rows are exchanged as `p` tells, the
 /// first `r` of them become the solution with L's triangle, and L's lower rows times this is added to the others.
 pub(crate) fn bring_up<M: EAddMul>(
@@ -44,7 +47,7 @@ pub(crate) fn bring_up<M: EAddMul>(
     let (above, below) = left.split_rows(r);
     let (mut x, mut rest) = right.take().split_rows(r);
     let (_rows_of_x, _rows_of_rest) = (x.rows(), rest.rows());
-    solve_lower_left(&above.narrow(r), &mut x, engine, cutoff);
+    solve_lower_left(&above.narrow(r), &mut x, engine, cutoff.min(BY_ROWS));
     engine.addmul(&mut rest, &below.narrow(r), &x.see());
     let (_rows_solved, _rows_added) = (x.rows(), rest.rows());
     right.put_back(x.join_rows(rest));

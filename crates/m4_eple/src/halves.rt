@@ -1,6 +1,7 @@
-//! The recursion: the left half of the columns, the right half brought up to it, and the right half of what remains.
+//! The recursion: the left columns, the right ones brought up to them, and the right columns of what remains. A wide window is
+//! cut at half of its columns, and a narrower one after a strip of them.
 
-ghost use Rattle.std.specs.Prelude.{◌≡◌, ◌⊎◌, ℕ, min, ◌+◌, ◌-◌, ◌≤◌, ◌<◌, length, take, drop, slice_index};
+ghost use Rattle.std.specs.Prelude.{◌≡◌, ◌⊎◌, ℕ, min, ◌+◌, ◌-◌, ◌%◌, ◌≤◌, ◌<◌, length, take, drop, slice_index};
 ghost use Rattle.m4_model.specs.Shapes.{cut, swaps};
 ghost use Rattle.m4_mzd.specs.Reach.{IsReached};
 ghost use Rattle.m4_mzed.specs.EWindow.{content, showing};
@@ -17,8 +18,8 @@ use m4_mzed::EWinMut;
 use m4_newton::EAddMul;
 use m4_trsm::half;
 
-/// What a PLE by halves works with beside the matrix: an engine for products, what factors the windows that are not halved,
-/// and the number of columns, at least 64, up to which a window is not halved.
+/// What a PLE by halves works with beside the matrix: an engine for products, what factors a strip of columns, and the number
+/// of columns, at least 64, up to which a window is not halved, but is cut into strips.
 #[derive(Drop)]
 pub struct Halving<M, B> {
     pub engine: M,
@@ -67,11 +68,12 @@ pub fn ple_by_halves<M: EAddMul, B: Base>(
     ensures cutoff { with.new.cutoff ≡ with.old.cutoff }
 {
     let cols = a.cols();
-    if cols <= with.cutoff {
+    let strip = with.base.strip();
+    if cols <= strip.min(with.cutoff) {
         return with.base.ple(a, p, q);
     }
     let _rows = a.rows();
-    let cut = half(cols);
+    let cut = cut_at(cols, strip, with.cutoff);
     let (mut left, mut right) = a.take().split_cols(cut);
     let (_left, _right) = (left.cols(), right.cols());
     let (mut spare_left, mut spare_right) = spare.take().split_cols(cut);
@@ -104,6 +106,19 @@ pub fn ple_by_halves<M: EAddMul, B: Base>(
     spare.put_back(spare_left.join_cols(spare_right));
     move_lower(a, first, cut, second, spare);
     first + second
+}
+
+/// Where a window of so many columns is cut: after a strip where it isn't halved, and else at half of its columns.
+fn cut_at(cols: u32, strip: u32, cutoff: u32) -> u32
+    requires more { min strip cutoff < cols }
+    requires some { 64 ≤ strip }
+    requires whole_words { strip % 64 ≡ 0 }
+    requires cutoff { 64 ≤ cutoff }
+    ensures some { 0 < result }
+    ensures less { result < cols }
+    ensures whole_words { result % 64 ≡ 0 }
+{
+    if cols <= cutoff { strip } else { half(cols) }
 }
 
 /// Factors what remains of the right columns, once these are brought up to the left ones, which hold a PLE of rank `first`.

@@ -1,4 +1,4 @@
-//! PLE factorization over any field, in place, by halves of the columns.
+//! PLE factorization over any field, in place, by halves of the columns and by strips of them.
 //!
 //! Source: M. Albrecht, G. Bard, C. Pernet, "Efficient dense Gaussian elimination over the field with two elements" (2011),
 //! section 4; C.-P. Jeannerod, C. Pernet, A. Storjohann, "Rank-profile revealing Gaussian elimination and the CUP matrix
@@ -7,6 +7,7 @@
 
 mod base;
 mod bring;
+mod by_words;
 mod exchanges;
 mod halves;
 mod lower;
@@ -16,6 +17,7 @@ mod raise;
 mod tests;
 
 pub use base::Base;
+pub use by_words::ByWords;
 pub use exchanges::swap_rows_by;
 pub use halves::{Halving, ple_by_halves};
 pub use plain::PlainBits;

@@ -1,8 +1,9 @@
 //! PLE by halves over GF(2), multiplied out again.
 
 ghost use Rattle.std.specs.Prelude.{◌≡◌, ◌≤◌, length, IfOk};
+ghost use Rattle.m4_model.specs.Field.{gf2};
 
-use crate::{Halving, PlainBits, ple_by_halves};
+use crate::{Base, ByWords, Halving, PlainBits, ple_by_halves};
 use m4_model::NoMemory;
 use m4_mul::Plain;
 use m4_mzd::{AddMul, Mzd, mixed};
@@ -50,8 +51,16 @@ fn of_rank(alloc: Global, rows: u32, cols: u32, rank: u32) -> Result<Mzd, NoMemo
     product(alloc, &a, &b)
 }
 
-/// Factors the matrix by halves, with products row by row.
-fn factor(alloc: Global, m: &mut Mzd, p: &mut [u32], q: &mut [u32]) -> Result<u32, NoMemory>
+/// Factors the matrix by halves over a base.
+fn factor<B: Base>(
+    alloc: Global,
+    m: &mut Mzd,
+    p: &mut [u32],
+    q: &mut [u32],
+    with: &mut Halving<OverBits<Plain>, B>,
+) -> Result<u32, NoMemory>
+    requires for_field { B.IsFor with.old.base gf2 }
+    requires cutoff { 64 ≤ with.old.cutoff }
     requires few_rows { m.old.rows ≤ 1000 }
     requires few_cols { m.old.cols ≤ 1000 }
     requires exchanges { length p.old ≡ m.old.rows }
@@ -64,12 +73,7 @@ fn factor(alloc: Global, m: &mut Mzd, p: &mut [u32], q: &mut [u32]) -> Result<u3
     let (spare, spare_home) = row.all_mut();
     let mut window = EWinMut::of_bits(all);
     let mut spare = EWinMut::of_bits(spare);
-    let mut with = Halving {
-        engine: OverBits { engine: Plain },
-        base: PlainBits,
-        cutoff: 64,
-    };
-    let rank = ple_by_halves(&mut window, p, q, &mut spare, &mut with);
+    let rank = ple_by_halves(&mut window, p, q, &mut spare, with);
     m.put_all(window.into_bits(), home);
     row.put_all(spare.into_bits(), spare_home);
     Ok(rank)
@@ -77,7 +81,15 @@ fn factor(alloc: Global, m: &mut Mzd, p: &mut [u32], q: &mut [u32]) -> Result<u3
 
 /// Whether a matrix of about this rank is factored by halves as without them: the plain elimination takes the same pivots in the
 /// same rows, so the exchanges, the pivots and the factors are the same.
-fn are_alike(alloc: Global, rows: u32, cols: u32, rank: u32) -> Result<bool, NoMemory>
+fn are_alike<B: Base>(
+    alloc: Global,
+    rows: u32,
+    cols: u32,
+    rank: u32,
+    with: &mut Halving<OverBits<Plain>, B>,
+) -> Result<bool, NoMemory>
+    requires for_field { B.IsFor with.old.base gf2 }
+    requires cutoff { 64 ≤ with.old.cutoff }
     requires few_rows { rows ≤ 1000 }
     requires few_cols { cols ≤ 1000 }
     requires few { rank ≤ 1000 }
@@ -88,7 +100,7 @@ fn are_alike(alloc: Global, rows: u32, cols: u32, rank: u32) -> Result<bool, NoM
     let mut q = vec![in alloc; 0u32; cols as usize]?;
     let mut plain_p = vec![in alloc; 0u32; rows as usize]?;
     let mut plain_q = vec![in alloc; 0u32; cols as usize]?;
-    let r = factor(alloc, &mut halved, &mut p, &mut q)?;
+    let r = factor(alloc, &mut halved, &mut p, &mut q, with)?;
     let (mut all, home) = plain.all_mut();
     let plain_r = ple_plain(&mut all, &mut plain_p, &mut plain_q);
     plain.put_all(all, home);
@@ -112,11 +124,48 @@ const SHAPES: [(u32, u32, u32); 5] = [
     (300, 70, 70),
 ];
 
+/// Whether such a matrix is factored alike by halves over windows that are eliminated whole.
+fn halves_are_alike(alloc: Global, rows: u32, cols: u32, rank: u32) -> Result<bool, NoMemory>
+    requires few_rows { rows ≤ 1000 }
+    requires few_cols { cols ≤ 1000 }
+    requires few { rank ≤ 1000 }
+{
+    let mut with = Halving {
+        engine: OverBits { engine: Plain },
+        base: PlainBits,
+        cutoff: 64,
+    };
+    are_alike(alloc, rows, cols, rank, &mut with)
+}
+
+/// Whether such a matrix is factored alike by strips of one word, below this cutoff, and by halves above it.
+fn strips_are_alike(
+    alloc: Global,
+    rows: u32,
+    cols: u32,
+    rank: u32,
+    cutoff: u32,
+) -> Result<bool, NoMemory>
+    requires few_rows { rows ≤ 1000 }
+    requires few_cols { cols ≤ 1000 }
+    requires few { rank ≤ 1000 }
+    requires cutoff { 64 ≤ cutoff }
+{
+    let mut with = Halving {
+        engine: OverBits { engine: Plain },
+        base: ByWords::new(alloc, rows)?,
+        cutoff,
+    };
+    are_alike(alloc, rows, cols, rank, &mut with)
+}
+
 #[test]
-fn halves_are_factored_as_the_whole(rt: HostRuntime) -> Result<(), Fail> {
+fn halves_and_strips_are_factored_as_the_whole(rt: HostRuntime) -> Result<(), Fail> {
     for (rows, cols, rank) in SHAPES {
         assert!(rt; rows <= 1000 && cols <= 1000 && rank <= 1000);
-        assert!(rt; are_alike(rt.alloc(), rows, cols, rank)?);
+        assert!(rt; halves_are_alike(rt.alloc(), rows, cols, rank)?);
+        assert!(rt; strips_are_alike(rt.alloc(), rows, cols, rank, 64)?);
+        assert!(rt; strips_are_alike(rt.alloc(), rows, cols, rank, 1000)?);
     }
     Ok(())
 }

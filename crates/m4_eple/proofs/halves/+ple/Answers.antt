@@ -22,7 +22,7 @@ ple_by_halves-raise-requires-clause-small g t c i below =
 pub ple_by_halves-raise-requires-2-clause-small : goal.ple_by_halves-raise-requires-2-clause-small
 ple_by_halves-raise-requires-2-clause-small g t c i below =
     let w = c.args.a.now in
-    let k = c.half-cut.result in
+    let k = c.cut_at-cut.result in
     let l0 = c.split_cols-left.result.0 in
     let r0 = c.split_cols-left.result.1 in
     let l1 = c.ple_by_halves-first.new.a in
@@ -31,7 +31,7 @@ ple_by_halves-raise-requires-2-clause-small g t c i below =
     let r2 = c.ple_right-second.new.right in
     let l0_at : l0 ≡ before w k = c.split_cols-left.ensures.left ∙ ap (λ (u : EWindow). before u k) c.take.ensures.whole in
     let r0_at : r0 ≡ behind w k = c.split_cols-left.ensures.right ∙ ap (λ (u : EWindow). behind u k) c.take.ensures.whole in
-    let within : k ≤ w.cols = omega (arith, c.half-cut.ensures.less, c.cols-cols.ensures.cols) in
+    let within : k ≤ w.cols = omega (arith, c.cut_at-cut.ensures.less, c.cols-cols.ensures.cols) in
     let b = c.ple_right-second.ensures.in_cols i below in
     let across : r1.cols ≡ w.cols - k = ap (λ (u : EWindow). u.cols) c.bring_up.ensures.kept ∙ ap (λ (u : EWindow). u.cols) r0_at in
     omega (arith, b, across, within, c.cols-cols.ensures.cols, c.cols-cols.type_inv)
@@ -39,7 +39,7 @@ ple_by_halves-raise-requires-2-clause-small g t c i below =
 pub ple_by_halves-returns-clause-kept : goal.ple_by_halves-returns-clause-kept
 ple_by_halves-returns-clause-kept g t c =
     let w = c.args.a.now in
-    let k = c.half-cut.result in
+    let k = c.cut_at-cut.result in
     let l0 = c.split_cols-left.result.0 in
     let r0 = c.split_cols-left.result.1 in
     let l1 = c.ple_by_halves-first.new.a in
@@ -48,7 +48,7 @@ ple_by_halves-returns-clause-kept g t c =
     let r2 = c.ple_right-second.new.right in
     let l0_at : l0 ≡ before w k = c.split_cols-left.ensures.left ∙ ap (λ (u : EWindow). before u k) c.take.ensures.whole in
     let r0_at : r0 ≡ behind w k = c.split_cols-left.ensures.right ∙ ap (λ (u : EWindow). behind u k) c.take.ensures.whole in
-    let within : k ≤ w.cols = omega (arith, c.half-cut.ensures.less, c.cols-cols.ensures.cols) in
+    let within : k ≤ w.cols = omega (arith, c.cut_at-cut.ensures.less, c.cols-cols.ensures.cols) in
     let l2_at : l2 ≡ showing (before w k) (content l2) =
     stays_more l0 l1 l2 (content l2) c.ple_by_halves-first.ensures.kept c.ple_right-second.ensures.left_kept ∙ ap (λ (u : EWindow). showing u (content l2)) l0_at in
     let r2_at : r2 ≡ showing (behind w k) (content r2) =
@@ -60,7 +60,7 @@ ple_by_halves-returns-clause-kept g t c =
 pub ple_by_halves-returns-clause-spare : goal.ple_by_halves-returns-clause-spare
 ple_by_halves-returns-clause-spare g t c =
     let w = c.args.spare.now in
-    let k = c.half-cut.result in
+    let k = c.cut_at-cut.result in
     let l0 = c.split_cols-spare_left.result.0 in
     let r0 = c.split_cols-spare_left.result.1 in
     let l1 = c.ple_by_halves-first.new.spare in
@@ -68,7 +68,7 @@ ple_by_halves-returns-clause-spare g t c =
     let S = c.put_back-2.new.self in
     let l0_at : l0 ≡ before w k = c.split_cols-spare_left.ensures.left ∙ ap (λ (u : EWindow). before u k) c.take-2.ensures.whole in
     let r0_at : r0 ≡ behind w k = c.split_cols-spare_left.ensures.right ∙ ap (λ (u : EWindow). behind u k) c.take-2.ensures.whole in
-    let within : k ≤ w.cols = omega (arith, c.half-cut.ensures.less, c.cols-cols.ensures.cols, c.requires.same_cols) in
+    let within : k ≤ w.cols = omega (arith, c.cut_at-cut.ensures.less, c.cols-cols.ensures.cols, c.requires.same_cols) in
     stays_more w S c.move_lower.new.spare (content c.move_lower.new.spare)
     (kept_paired w l1 r1 S k within (c.ple_by_halves-first.ensures.spare ∙ ap (λ (u : EWindow). showing u (content l1)) l0_at)
     (c.ple_right-second.ensures.spare ∙ ap (λ (u : EWindow). showing u (content r1)) r0_at) (c.put_back-2.ensures ∙ c.join_cols-2.ensures))
@@ -77,7 +77,7 @@ ple_by_halves-returns-clause-spare g t c =
 pub ple_by_halves-returns-clause-exchanges : goal.ple_by_halves-returns-clause-exchanges
 ple_by_halves-returns-clause-exchanges g t c =
     let w = c.args.a.now in
-    let k = c.half-cut.result in
+    let k = c.cut_at-cut.result in
     let l0 = c.split_cols-left.result.0 in
     let r0 = c.split_cols-left.result.1 in
     let l1 = c.ple_by_halves-first.new.a in
@@ -86,7 +86,7 @@ ple_by_halves-returns-clause-exchanges g t c =
     let r2 = c.ple_right-second.new.right in
     let l0_at : l0 ≡ before w k = c.split_cols-left.ensures.left ∙ ap (λ (u : EWindow). before u k) c.take.ensures.whole in
     let r0_at : r0 ≡ behind w k = c.split_cols-left.ensures.right ∙ ap (λ (u : EWindow). behind u k) c.take.ensures.whole in
-    let within : k ≤ w.cols = omega (arith, c.half-cut.ensures.less, c.cols-cols.ensures.cols) in
+    let within : k ≤ w.cols = omega (arith, c.cut_at-cut.ensures.less, c.cols-cols.ensures.cols) in
     let P = c.ple_by_halves-first.new.p in
     let s = c.ple_right-second.new.p in
     let r = c.ple_by_halves-first.result in
@@ -104,7 +104,7 @@ ple_by_halves-returns-clause-exchanges g t c =
 pub ple_by_halves-returns-clause-stay : goal.ple_by_halves-returns-clause-stay
 ple_by_halves-returns-clause-stay g t c i past below =
     let w = c.args.a.now in
-    let k = c.half-cut.result in
+    let k = c.cut_at-cut.result in
     let l0 = c.split_cols-left.result.0 in
     let r0 = c.split_cols-left.result.1 in
     let l1 = c.ple_by_halves-first.new.a in
@@ -113,7 +113,7 @@ ple_by_halves-returns-clause-stay g t c i past below =
     let r2 = c.ple_right-second.new.right in
     let l0_at : l0 ≡ before w k = c.split_cols-left.ensures.left ∙ ap (λ (u : EWindow). before u k) c.take.ensures.whole in
     let r0_at : r0 ≡ behind w k = c.split_cols-left.ensures.right ∙ ap (λ (u : EWindow). behind u k) c.take.ensures.whole in
-    let within : k ≤ w.cols = omega (arith, c.half-cut.ensures.less, c.cols-cols.ensures.cols) in
+    let within : k ≤ w.cols = omega (arith, c.cut_at-cut.ensures.less, c.cols-cols.ensures.cols) in
     let P = c.ple_by_halves-first.new.p in
     let s = c.ple_right-second.new.p in
     let r = c.ple_by_halves-first.result in
@@ -135,7 +135,7 @@ ple_by_halves-returns-clause-stay g t c i past below =
 pub ple_by_halves-returns-clause-in_cols : goal.ple_by_halves-returns-clause-in_cols
 ple_by_halves-returns-clause-in_cols g t c i below =
     let w = c.args.a.now in
-    let k = c.half-cut.result in
+    let k = c.cut_at-cut.result in
     let l0 = c.split_cols-left.result.0 in
     let r0 = c.split_cols-left.result.1 in
     let l1 = c.ple_by_halves-first.new.a in
@@ -144,7 +144,7 @@ ple_by_halves-returns-clause-in_cols g t c i below =
     let r2 = c.ple_right-second.new.right in
     let l0_at : l0 ≡ before w k = c.split_cols-left.ensures.left ∙ ap (λ (u : EWindow). before u k) c.take.ensures.whole in
     let r0_at : r0 ≡ behind w k = c.split_cols-left.ensures.right ∙ ap (λ (u : EWindow). behind u k) c.take.ensures.whole in
-    let within : k ≤ w.cols = omega (arith, c.half-cut.ensures.less, c.cols-cols.ensures.cols) in
+    let within : k ≤ w.cols = omega (arith, c.cut_at-cut.ensures.less, c.cols-cols.ensures.cols) in
     let Q = c.ple_by_halves-first.new.q in
     let T = c.ple_right-second.new.q in
     let r = c.ple_by_halves-first.result in
@@ -161,7 +161,7 @@ ple_by_halves-returns-clause-in_cols g t c i below =
 pub ple_by_halves-returns-clause-factors : goal.ple_by_halves-returns-clause-factors
 ple_by_halves-returns-clause-factors g t c =
     let w = c.args.a.now in
-    let k = c.half-cut.result in
+    let k = c.cut_at-cut.result in
     let l0 = c.split_cols-left.result.0 in
     let r0 = c.split_cols-left.result.1 in
     let l1 = c.ple_by_halves-first.new.a in
@@ -170,7 +170,7 @@ ple_by_halves-returns-clause-factors g t c =
     let r2 = c.ple_right-second.new.right in
     let l0_at : l0 ≡ before w k = c.split_cols-left.ensures.left ∙ ap (λ (u : EWindow). before u k) c.take.ensures.whole in
     let r0_at : r0 ≡ behind w k = c.split_cols-left.ensures.right ∙ ap (λ (u : EWindow). behind u k) c.take.ensures.whole in
-    let within : k ≤ w.cols = omega (arith, c.half-cut.ensures.less, c.cols-cols.ensures.cols) in
+    let within : k ≤ w.cols = omega (arith, c.cut_at-cut.ensures.less, c.cols-cols.ensures.cols) in
     let l2_at : l2 ≡ showing (before w k) (content l2) =
     stays_more l0 l1 l2 (content l2) c.ple_by_halves-first.ensures.kept c.ple_right-second.ensures.left_kept ∙ ap (λ (u : EWindow). showing u (content l2)) l0_at in
     let r2_at : r2 ≡ showing (behind w k) (content r2) =
