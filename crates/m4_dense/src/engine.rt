@@ -7,9 +7,11 @@ ghost use Rattle.m4_dense.specs.Engine.{IsEngine, can_multiply, engine_limits};
 
 use crate::chosen::{Chosen, ELIMINATION_CUTOFF};
 use crate::how::How;
+use m4_eple::{ByWords, Halving};
 use m4_model::{Algo, NoMemory};
 use m4_mul::{Plain, Table};
 use m4_mzd::{AddMul, MOST_SIDE, Shape, Win, WinMut};
+use m4_newton::OverBits;
 use m4_solve::Ctx;
 use m4_strassen::Strassen;
 use std::alloc::Global;
@@ -85,8 +87,8 @@ pub(crate) fn context(
 ) -> Result<Ctx<Engine>, NoMemory>
     requires few_rows { rows ≤ MOST_SIDE }
     requires few_cols { cols ≤ MOST_SIDE }
-    ensures ready { IfOk result (λ ctx. can_multiply ctx.engine) }
-    ensures serves { IfOk result (λ ctx. Serves (engine_limits ctx.engine) ctx.cutoff rows cols) }
+    ensures ready { IfOk result (λ ctx. can_multiply ctx.engine.engine) }
+    ensures serves { IfOk result (λ ctx. Serves (engine_limits ctx.engine.engine) ctx.cutoff rows cols) }
     ensures cutoff { IfOk result (λ ctx. ctx.cutoff ≡ unwrap_or how.cutoff ELIMINATION_CUTOFF) }
 {
     let shape = Shape {
@@ -95,8 +97,10 @@ pub(crate) fn context(
         n: cols,
     };
     let chosen = Chosen::for_elimination(how, shape);
-    Ok(Ctx {
-        engine: Engine::new(alloc, chosen, shape)?,
+    let engine = Engine::new(alloc, chosen, shape)?;
+    Ok(Halving {
+        engine: OverBits { engine },
+        base: ByWords::new(alloc, rows)?,
         cutoff: chosen.cutoff,
     })
 }

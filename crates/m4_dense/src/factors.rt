@@ -51,6 +51,8 @@ struct Workspace {
     exchanges: Vec<u32>,
     /// Room for the pivot columns, or for the exchanges of columns.
     pivots: Vec<u32>,
+    /// A row as long as the matrix's.
+    row: Mzd,
     context: Ctx<Engine>,
 }
 
@@ -61,12 +63,14 @@ impl Workspace {
         requires few_cols { cols ≤ MOST_SIDE }
         ensures exchanges { IfOk result (λ space. length space.exchanges.items ≡ rows) }
         ensures pivots { IfOk result (λ space. length space.pivots.items ≡ rows) }
-        ensures ready { IfOk result (λ space. can_multiply space.context.engine) }
-        ensures serves { IfOk result (λ space. Serves (engine_limits space.context.engine) space.context.cutoff rows cols) }
+        ensures row { IfOk result (λ space. (space.row.rows ≡ 1) × (space.row.cols ≡ cols)) }
+        ensures ready { IfOk result (λ space. can_multiply space.context.engine.engine) }
+        ensures serves { IfOk result (λ space. Serves (engine_limits space.context.engine.engine) space.context.cutoff rows cols) }
     {
         Ok(Workspace {
             exchanges: vec![in alloc; 0u32; rows as usize]?,
             pivots: vec![in alloc; 0u32; rows as usize]?,
+            row: Mzd::zeros(alloc, 1, cols)?,
             context: context(alloc, how, rows, cols)?,
         })
     }
@@ -77,7 +81,7 @@ impl Workspace {
 /// them.
 ///
 /// The elimination is made in the matrix's own place: Albrecht, Bard and Pernet, Efficient dense Gaussian elimination over
-/// the field with two elements, 2011. It takes memory for the factors and for two numbers for each row.
+/// the field with two elements, 2011. It takes memory for the factors and for a word and two numbers for each row, and for a row.
 pub fn ple(alloc: Global, how: How, a: Mzed) -> Result<PleFactors, NoMemory>
     requires over_gf2 { a.field ≡ gf2 }
     ensures { IfOk result (IsPleOf a) }
@@ -89,6 +93,7 @@ pub fn ple(alloc: Global, how: How, a: Mzed) -> Result<PleFactors, NoMemory>
         bits,
         &mut space.exchanges,
         &mut space.pivots,
+        &mut space.row,
         &mut space.context,
     )?)
 }
@@ -99,24 +104,22 @@ fn ple_in_room<M: AddMul>(
     a: Mzd,
     exchanges: &mut [u32],
     pivots: &mut [u32],
+    row: &mut Mzd,
     context: &mut Ctx<M>,
 ) -> Result<PleFactors, NoMemory>
     requires exchanges { length exchanges.old ≡ a.rows }
     requires pivots { length pivots.old ≡ a.rows }
-    requires ready { M.ready context.old.engine }
-    requires serves { Serves (M.limits context.old.engine) context.old.cutoff a.rows a.cols }
+    requires row { (row.old.rows ≡ 1) × (row.old.cols ≡ a.cols) }
+    requires ready { M.ready context.old.engine.engine }
+    requires serves { Serves (M.limits context.old.engine.engine) context.old.cutoff a.rows a.cols }
     ensures { IfOk result (IsPleOf a) }
 {
     let mut held = a;
     let (mut all, home) = held.all_mut();
-    let rank = m4_ple::ple(
-        &mut all,
-        exchanges,
-        pivots,
-        &mut context.engine,
-        context.cutoff,
-    );
+    let (mut spare, spare_home) = row.all_mut();
+    let rank = m4_eple::ple(&mut all, exchanges, pivots, &mut spare, context);
     held.put_all(all, home);
+    row.put_all(spare, spare_home);
     let pivots = &pivots[..rank as usize];
     let factors = ple_factors(alloc, &held.all(), pivots)?;
     Ok(PleFactors {
@@ -132,7 +135,8 @@ fn ple_in_room<M: AddMul>(
 /// far as the rank goes.
 ///
 /// The elimination is made in the matrix's own place, and the pivots' columns are brought to the front, as in the same
-/// paper. It takes memory for the factors, for two numbers for each row, and for one for each column.
+/// paper. It takes memory for the factors, for a word and two numbers for each row, for a number
+/// for each column, and for a row.
 pub fn pluq(alloc: Global, how: How, a: Mzed) -> Result<PluqFactors, NoMemory>
     requires over_gf2 { a.field ≡ gf2 }
     ensures { IfOk result (IsPluqOf a) }
@@ -144,6 +148,7 @@ pub fn pluq(alloc: Global, how: How, a: Mzed) -> Result<PluqFactors, NoMemory>
         bits,
         &mut space.exchanges,
         &mut space.pivots,
+        &mut space.row,
         &mut space.context,
     )?)
 }
@@ -154,24 +159,22 @@ fn pluq_in_room<M: AddMul>(
     a: Mzd,
     exchanges: &mut [u32],
     pivots: &mut [u32],
+    row: &mut Mzd,
     context: &mut Ctx<M>,
 ) -> Result<PluqFactors, NoMemory>
     requires exchanges { length exchanges.old ≡ a.rows }
     requires pivots { length pivots.old ≡ a.rows }
-    requires ready { M.ready context.old.engine }
-    requires serves { Serves (M.limits context.old.engine) context.old.cutoff a.rows a.cols }
+    requires row { (row.old.rows ≡ 1) × (row.old.cols ≡ a.cols) }
+    requires ready { M.ready context.old.engine.engine }
+    requires serves { Serves (M.limits context.old.engine.engine) context.old.cutoff a.rows a.cols }
     ensures { IfOk result (IsPluqOf a) }
 {
     let mut held = a;
     let (mut all, home) = held.all_mut();
-    let rank = m4_ple::pluq(
-        &mut all,
-        exchanges,
-        pivots,
-        &mut context.engine,
-        context.cutoff,
-    );
+    let (mut spare, spare_home) = row.all_mut();
+    let rank = m4_eple::pluq(&mut all, exchanges, pivots, &mut spare, context);
     held.put_all(all, home);
+    row.put_all(spare, spare_home);
     let factors = pluq_factors(alloc, &held.all(), rank)?;
     Ok(PluqFactors {
         rank,

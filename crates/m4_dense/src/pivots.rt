@@ -24,7 +24,7 @@ pub struct PivotForm {
 /// The reduced row echelon form of a matrix of any shape over GF(2) with the columns of its pivots, made of a copy. It
 /// tells the rank, and so how many rows the basis of the kernel has, before `into_kernel` takes memory for that basis.
 ///
-/// It takes memory for a copy, for a row, and for a number for each row and each pivot.
+/// It takes memory for a copy, for a row, for a word and a number for each row, and for a number for each pivot.
 pub fn pivot_form(alloc: Global, how: How, a: &Mzed) -> Result<PivotForm, NoMemory>
     requires over_gf2 { a.now.field ≡ gf2 }
     ensures reduced { IfOk result (λ form. IsReducedAt form.matrix a.now form.pivots.items) }

@@ -16,7 +16,8 @@ use std::alloc::Global;
 
 /// The rank of a matrix of any shape over GF(2): how many of its columns aren't combinations of those before them.
 ///
-/// It takes memory for a copy, of which a PLE is made, and for a number for each row and each column.
+/// It takes memory for a copy, of which a PLE is made, for a word and a number for each row, for a number for each column,
+/// and for a row.
 pub fn rank(alloc: Global, how: How, a: &Mzed) -> Result<u32, NoMemory>
     requires over_gf2 { a.now.field ≡ gf2 }
     ensures { IfOk result (IsRank a.now) }
@@ -28,8 +29,8 @@ pub fn rank(alloc: Global, how: How, a: &Mzed) -> Result<u32, NoMemory>
 
 /// The reduced row echelon form of a matrix of any shape over GF(2), in its own place. There is one.
 ///
-/// It takes memory for a row, and for a number for each row and each pivot. A PLE is made, its echelon form is kept, and
-/// the entries above the pivots are cleared.
+/// It takes memory for a row, for a word and a number for each row, and for a number for each pivot. A PLE is made, its
+/// echelon form is kept, and the entries above the pivots are cleared.
 pub fn reduced_form(alloc: Global, how: How, a: Mzed) -> Result<Mzed, NoMemory>
     requires over_gf2 { a.field ≡ gf2 }
     ensures { IfOk result (λ form. IsReduced form a) }

@@ -9,7 +9,7 @@ ghost use Rattle.m4_ple.specs.Columns.{exchanged_row, with_exchanged};
 use m4_mzd::WinMut;
 
 /// Exchanges, for k = 0, 1, 2 and so on in turn, the entries in columns k and `pivots[k]` of the rows 0 to k.
-pub(crate) fn exchange_columns(a: &mut WinMut, pivots: &[u32])
+pub fn exchange_columns(a: &mut WinMut, pivots: &[u32])
     requires in_rows { length pivots.now ≤ a.old.rows }
     requires room { length pivots.now ≤ a.old.cols }
     requires in_cols { (k : ℕ) → k < length pivots.now → slice_index pivots.now k < a.old.cols }

@@ -20,11 +20,11 @@ use std::alloc::Global;
 ///
 /// It is read off the reduced form of the matrix.
 pub fn kernel<M: AddMul>(alloc: Global, a: &Win, ctx: &mut Ctx<M>) -> Result<Mzd, NoMemory>
-    requires ready { M.ready ctx.old.engine }
-    requires serves { Serves (M.limits ctx.old.engine) ctx.old.cutoff (shown a.now).rows (shown a.now).cols }
+    requires ready { M.ready ctx.old.engine.engine }
+    requires serves { Serves (M.limits ctx.old.engine.engine) ctx.old.cutoff (shown a.now).rows (shown a.now).cols }
     ensures kernel { IfOk result (λ k. IsKernel k (shown a.now)) }
-    ensures engine { M.limits ctx.new.engine ≡ M.limits ctx.old.engine }
-    ensures still_ready { M.ready ctx.new.engine }
+    ensures engine { M.limits ctx.new.engine.engine ≡ M.limits ctx.old.engine.engine }
+    ensures still_ready { M.ready ctx.new.engine.engine }
     ensures cutoff { ctx.new.cutoff ≡ ctx.old.cutoff }
 {
     let form = reduced_form(alloc, a, ctx)?;

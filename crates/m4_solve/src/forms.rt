@@ -9,22 +9,22 @@ ghost use Rattle.m4_solve.specs.Reduction.{IsReducedAt};
 
 use crate::context::Ctx;
 use crate::room::Room;
+use m4_eple::ple;
 use m4_model::NoMemory;
 use m4_mzd::{AddMul, Mzd, Win};
-use m4_ple::ple;
 use std::alloc::Global;
 
 /// Makes of the matrix its reduced row echelon form, and answers its rank. Where memory is wanting, the matrix is as it was.
 ///
 /// A PLE is made in place, its echelon form is kept, and the entries above the pivots are cleared. It refuses no shape.
 pub fn echelon<M: AddMul>(alloc: Global, a: &mut Mzd, ctx: &mut Ctx<M>) -> Result<u32, NoMemory>
-    requires ready { M.ready ctx.old.engine }
-    requires serves { Serves (M.limits ctx.old.engine) ctx.old.cutoff a.old.rows a.old.cols }
+    requires ready { M.ready ctx.old.engine.engine }
+    requires serves { Serves (M.limits ctx.old.engine.engine) ctx.old.cutoff a.old.rows a.old.cols }
     ensures reduced { IfOk result (λ r. IsReduced a.new a.old) }
     ensures rank { IfOk result (IsRank a.old) }
     ensures kept { IfErr result (λ _. a.new ≡ a.old) }
-    ensures engine { M.limits ctx.new.engine ≡ M.limits ctx.old.engine }
-    ensures still_ready { M.ready ctx.new.engine }
+    ensures engine { M.limits ctx.new.engine.engine ≡ M.limits ctx.old.engine.engine }
+    ensures still_ready { M.ready ctx.new.engine.engine }
     ensures cutoff { ctx.new.cutoff ≡ ctx.old.cutoff }
 {
     let mut room = Room::new(alloc, a.rows(), a.cols())?;
@@ -45,11 +45,11 @@ impl ReducedForm {
         a: Mzd,
         ctx: &mut Ctx<M>,
     ) -> Result<ReducedForm, NoMemory>
-        requires ready { M.ready ctx.old.engine }
-        requires serves { Serves (M.limits ctx.old.engine) ctx.old.cutoff a.rows a.cols }
+        requires ready { M.ready ctx.old.engine.engine }
+        requires serves { Serves (M.limits ctx.old.engine.engine) ctx.old.cutoff a.rows a.cols }
         ensures reduced { IfOk result (λ form. IsReducedAt form.matrix a form.pivots.items) }
-        ensures engine { M.limits ctx.new.engine ≡ M.limits ctx.old.engine }
-        ensures still_ready { M.ready ctx.new.engine }
+        ensures engine { M.limits ctx.new.engine.engine ≡ M.limits ctx.old.engine.engine }
+        ensures still_ready { M.ready ctx.new.engine.engine }
         ensures cutoff { ctx.new.cutoff ≡ ctx.old.cutoff }
     {
         let mut matrix = a;
@@ -70,15 +70,15 @@ pub fn reduced_form<M: AddMul>(
     a: &Win,
     ctx: &mut Ctx<M>,
 ) -> Result<ReducedForm, NoMemory>
-    requires ready { M.ready ctx.old.engine }
-    requires serves { Serves (M.limits ctx.old.engine) ctx.old.cutoff (shown a.now).rows (shown a.now).cols }
+    requires ready { M.ready ctx.old.engine.engine }
+    requires serves { Serves (M.limits ctx.old.engine.engine) ctx.old.cutoff (shown a.now).rows (shown a.now).cols }
     ensures reduced { IfOk result (λ form. IsReducedAt form.matrix (shown a.now) form.pivots.items) }
     ensures form { IfOk result (λ form. Reduced form.matrix form.pivots.items) }
     ensures rank { IfOk result (λ form. IsRank (shown a.now) (length form.pivots.items)) }
     ensures few_rows { IfOk result (λ form. length form.pivots.items ≤ (shown a.now).rows) }
     ensures few_cols { IfOk result (λ form. length form.pivots.items ≤ (shown a.now).cols) }
-    ensures engine { M.limits ctx.new.engine ≡ M.limits ctx.old.engine }
-    ensures still_ready { M.ready ctx.new.engine }
+    ensures engine { M.limits ctx.new.engine.engine ≡ M.limits ctx.old.engine.engine }
+    ensures still_ready { M.ready ctx.new.engine.engine }
     ensures cutoff { ctx.new.cutoff ≡ ctx.old.cutoff }
 {
     let _cols = a.cols();
@@ -90,24 +90,21 @@ pub fn reduced_form<M: AddMul>(
 /// The rank of a matrix of any shape: the number of its pivots, told by a PLE of a copy. It refuses nothing, but memory may
 /// be wanting.
 pub fn rank<M: AddMul>(alloc: Global, a: &Win, ctx: &mut Ctx<M>) -> Result<u32, NoMemory>
-    requires ready { M.ready ctx.old.engine }
-    requires serves { Serves (M.limits ctx.old.engine) ctx.old.cutoff (shown a.now).rows (shown a.now).cols }
+    requires ready { M.ready ctx.old.engine.engine }
+    requires serves { Serves (M.limits ctx.old.engine.engine) ctx.old.cutoff (shown a.now).rows (shown a.now).cols }
     ensures rank { IfOk result (IsRank (shown a.now)) }
-    ensures engine { M.limits ctx.new.engine ≡ M.limits ctx.old.engine }
-    ensures still_ready { M.ready ctx.new.engine }
+    ensures engine { M.limits ctx.new.engine.engine ≡ M.limits ctx.old.engine.engine }
+    ensures still_ready { M.ready ctx.new.engine.engine }
     ensures cutoff { ctx.new.cutoff ≡ ctx.old.cutoff }
 {
     let mut copy = copied(alloc, a)?;
     let mut exchanges = vec![in alloc; 0u32; a.rows() as usize]?;
     let mut pivots = vec![in alloc; 0u32; a.cols() as usize]?;
+    let mut row = Mzd::zeros(alloc, 1, a.cols())?;
     let (mut all, home) = copy.all_mut();
-    let rank = ple(
-        &mut all,
-        &mut exchanges,
-        &mut pivots,
-        &mut ctx.engine,
-        ctx.cutoff,
-    );
+    let (mut spare, spare_home) = row.all_mut();
+    let rank = ple(&mut all, &mut exchanges, &mut pivots, &mut spare, ctx);
+    row.put_all(spare, spare_home);
     copy.put_all(all, home);
     Ok(rank)
 }

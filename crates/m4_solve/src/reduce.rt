@@ -10,8 +10,9 @@ ghost use Rattle.m4_solve.specs.Context.{Serves};
 ghost use Rattle.m4_solve.specs.Reduction.{swept, swept_row, IsReducedAt};
 
 use crate::context::Ctx;
+use m4_eple::ple;
 use m4_mzd::{AddMul, WinMut};
-use m4_ple::{keep_echelon, ple};
+use m4_ple::keep_echelon;
 
 /// Makes of the window its reduced row echelon form, and answers its rank, with the pivot columns in the front of `q`.
 ///
@@ -27,20 +28,20 @@ pub(crate) fn reduce_window<M: AddMul>(
     requires pivots { (length q.old ≡ a.old.rows) ⊎ (a.old.cols ≤ length q.old) }
     requires one_row { spare.old.rows ≡ 1 }
     requires same_cols { spare.old.cols ≡ a.old.cols }
-    requires ready { M.ready ctx.old.engine }
-    requires serves { Serves (M.limits ctx.old.engine) ctx.old.cutoff a.old.rows a.old.cols }
+    requires ready { M.ready ctx.old.engine.engine }
+    requires serves { Serves (M.limits ctx.old.engine.engine) ctx.old.cutoff a.old.rows a.old.cols }
     ensures kept { a.new ≡ showing a.old (content a.new) }
     ensures spare { spare.new ≡ showing spare.old (content spare.new) }
     ensures exchanges { length p.new ≡ length p.old }
     ensures room { length q.new ≡ length q.old }
     ensures rank { result ≤ length q.new }
     ensures reduced { IsReducedAt (content a.new) (content a.old) (take result q.new) }
-    ensures engine { M.limits ctx.new.engine ≡ M.limits ctx.old.engine }
-    ensures still_ready { M.ready ctx.new.engine }
+    ensures engine { M.limits ctx.new.engine.engine ≡ M.limits ctx.old.engine.engine }
+    ensures still_ready { M.ready ctx.new.engine.engine }
     ensures cutoff { ctx.new.cutoff ≡ ctx.old.cutoff }
 {
     let _rows = a.rows();
-    let rank = ple(a, p, q, &mut ctx.engine, ctx.cutoff);
+    let rank = ple(a, p, q, spare, ctx);
     let _cols = a.cols();
     let pivots = &q[..rank as usize];
     keep_echelon(a, pivots, spare);

@@ -36,13 +36,13 @@ impl Room {
     /// Makes of the matrix its reduced row echelon form, and answers its rank, with the pivots in the front of `pivots`.
     pub(crate) fn reduce<M: AddMul>(&mut self, a: &mut Mzd, ctx: &mut Ctx<M>) -> u32
         requires room { IsRoomFor a.old.rows a.old.cols self.old }
-        requires ready { M.ready ctx.old.engine }
-        requires serves { Serves (M.limits ctx.old.engine) ctx.old.cutoff a.old.rows a.old.cols }
+        requires ready { M.ready ctx.old.engine.engine }
+        requires serves { Serves (M.limits ctx.old.engine.engine) ctx.old.cutoff a.old.rows a.old.cols }
         ensures room { IsRoomFor a.old.rows a.old.cols self.new }
         ensures rank { result ≤ length self.new.pivots.items }
         ensures reduced { IsReducedAt a.new a.old (take result self.new.pivots.items) }
-        ensures engine { M.limits ctx.new.engine ≡ M.limits ctx.old.engine }
-        ensures still_ready { M.ready ctx.new.engine }
+        ensures engine { M.limits ctx.new.engine.engine ≡ M.limits ctx.old.engine.engine }
+        ensures still_ready { M.ready ctx.new.engine.engine }
         ensures cutoff { ctx.new.cutoff ≡ ctx.old.cutoff }
     {
         let (mut all, home) = a.all_mut();

@@ -31,11 +31,11 @@ pub fn solve<M: AddMul>(
 ) -> Result<Solution, NoMemory>
     requires same_rows { (shown b.now).rows ≡ (shown a.now).rows }
     requires few_cols { (shown a.now).cols + (shown b.now).cols ≤ 2 ^ 24 }
-    requires ready { M.ready ctx.old.engine }
-    requires serves { Serves (M.limits ctx.old.engine) ctx.old.cutoff (shown a.now).rows ((shown a.now).cols + (shown b.now).cols) }
+    requires ready { M.ready ctx.old.engine.engine }
+    requires serves { Serves (M.limits ctx.old.engine.engine) ctx.old.cutoff (shown a.now).rows ((shown a.now).cols + (shown b.now).cols) }
     ensures solution { IfOk result (TellsSolution (shown a.now) (shown b.now)) }
-    ensures engine { M.limits ctx.new.engine ≡ M.limits ctx.old.engine }
-    ensures still_ready { M.ready ctx.new.engine }
+    ensures engine { M.limits ctx.new.engine.engine ≡ M.limits ctx.old.engine.engine }
+    ensures still_ready { M.ready ctx.new.engine.engine }
     ensures cutoff { ctx.new.cutoff ≡ ctx.old.cutoff }
 {
     let _rows = a.rows();
@@ -56,11 +56,11 @@ pub fn solve<M: AddMul>(
 pub fn invert<M: AddMul>(alloc: Global, a: &Win, ctx: &mut Ctx<M>) -> Result<Inverse, NoMemory>
     requires square { (shown a.now).cols ≡ (shown a.now).rows }
     requires few_cols { (shown a.now).cols + (shown a.now).cols ≤ 2 ^ 24 }
-    requires ready { M.ready ctx.old.engine }
-    requires serves { Serves (M.limits ctx.old.engine) ctx.old.cutoff (shown a.now).rows ((shown a.now).cols + (shown a.now).cols) }
+    requires ready { M.ready ctx.old.engine.engine }
+    requires serves { Serves (M.limits ctx.old.engine.engine) ctx.old.cutoff (shown a.now).rows ((shown a.now).cols + (shown a.now).cols) }
     ensures inverse { IfOk result (TellsInverse (shown a.now)) }
-    ensures engine { M.limits ctx.new.engine ≡ M.limits ctx.old.engine }
-    ensures still_ready { M.ready ctx.new.engine }
+    ensures engine { M.limits ctx.new.engine.engine ≡ M.limits ctx.old.engine.engine }
+    ensures still_ready { M.ready ctx.new.engine.engine }
     ensures cutoff { ctx.new.cutoff ≡ ctx.old.cutoff }
 {
     let n = a.cols();

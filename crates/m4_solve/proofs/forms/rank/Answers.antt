@@ -23,4 +23,4 @@ returns-clause-rank g c =
 pub ple-rank-requires-clause-reached : goal.ple-rank-requires-clause-reached
 ple-rank-requires-clause-reached g c =
     let same : content c.all_mut-all.result.0 ≡ shown c.args.a.now = c.all_mut-all.ensures.content ∙ c.in_ok-copy.ensures in
-    subst (λ (A : Matrix). (l : ℕ) → l ≤ A.rows → l ≤ A.cols → IsReached (g.M.AddMul.limits c.args.ctx.now.engine) A.rows l A.cols) (sym same) c.requires.serves.reached
+    subst (λ (A : Matrix). (l : ℕ) → l ≤ A.rows → l ≤ A.cols → IsReached (g.M.AddMul.limits c.args.ctx.now.engine.engine) A.rows l A.cols) (sym same) c.requires.serves.reached

@@ -8,7 +8,7 @@ use Rattle.m4_mzd.specs.Window.{Window, content, showing}
 use Rattle.m4_ple.specs.Columns.{with_exchanged}
 use Rattle.m4_ple.specs.Held.{HoldsPluq}
 use Rattle.m4_ple.proofs.ExchangedColumns.{pluq_held}
-use Rattle.m4_ple.proofs.in_place.pluq.Goals as goal
+use Rattle.m4_eple.proofs.in_place.pluq.Goals as goal
 
 pub exchange_columns-requires-clause-in_rows : goal.exchange_columns-requires-clause-in_rows
 exchange_columns-requires-clause-in_rows g c =
