@@ -10,6 +10,7 @@ ghost use Rattle.m4_ple.specs.Held.{HoldsPle};
 ghost use Rattle.m4_ple.specs.Words.{word_matrix, cleared_bit, IsClearedTo};
 
 use crate::plain::number;
+use m4_mzd::MOST_SIDE;
 
 /// Factors the matrix of so many columns, at most 64, that the words show, as P L E in their own place, and answers its rank
 /// r. What is told of `p` and `q`, and where L and E stand, is as for `ple_plain`. It takes no memory and refuses nothing.
@@ -19,7 +20,7 @@ use crate::plain::number;
 pub fn ple_words(words: &mut [u64], cols: u32, p: &mut [u32], q: &mut [u32]) -> u32
     requires one_word { cols ≤ 64 }
     requires exchanges { length p.old ≡ length words.old }
-    requires few { length words.old ≤ 16777216 }
+    requires few { length words.old ≤ MOST_SIDE }
     requires pivots { (length q.old ≡ length words.old) ⊎ (cols ≤ length q.old) }
     ensures words { length words.new ≡ length words.old }
     ensures exchanges { AreSwaps (length words.old) p.new }
@@ -42,7 +43,7 @@ fn eliminate_bit(words: &mut [u64], p: &mut [u32], q: &mut [u32], rank: u32, c: 
     requires one_word { c < 64 }
     requires reached { rank ≤ c }
     requires exchanges { length p.old ≡ length words.old }
-    requires few { length words.old ≤ 16777216 }
+    requires few { length words.old ≤ MOST_SIDE }
     requires pivots { (length q.old ≡ length words.old) ⊎ (c < length q.old) }
     ensures words { length words.new ≡ length words.old }
     ensures exchanges { length p.new ≡ length p.old }
@@ -63,7 +64,7 @@ fn eliminate_bit(words: &mut [u64], p: &mut [u32], q: &mut [u32], rank: u32, c: 
 /// The first row from `from` on that has a one in column `c`.
 fn find_one(words: &[u64], from: u32, c: u32) -> Option<u32>
     requires one_word { c < 64 }
-    requires few { length words.now ≤ 16777216 }
+    requires few { length words.now ≤ MOST_SIDE }
     ensures behind { IfSome result (λ r. from ≤ r) }
     ensures in_rows { IfSome result (λ r. r < length words.now) }
     ensures one { IfSome result (λ r. bit_at (slice_index words.now r) c ≡ 1) }
