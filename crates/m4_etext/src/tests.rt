@@ -1,6 +1,6 @@
 //! Texts in every form, read byte by byte and cut at each place, and written.
 use crate::*;
-use m4_field::FieldFault;
+use m4_field::{Field, FieldFault};
 use m4_io::MemSink;
 use m4_mzed::Mzed;
 use std::alloc::Global;
@@ -216,6 +216,111 @@ fn other_texts_are_refused(rt: HostRuntime) -> Result<(), Fail> {
     }
     for case in &REFUSED_PLAIN {
         is_refused_cut(&rt, alloc, case.0, case.1, case.2);
+    }
+    Ok(())
+}
+
+/// The next number of a sequence without an order.
+fn next(seed: &mut u64) -> u64 {
+    let mut word = *seed;
+    word ^= word << 13;
+    word ^= word >> 7;
+    word ^= word << 17;
+    *seed = word;
+    word
+}
+
+/// A field of degree 1, 2, 4, 9 or 16.
+fn random_field(seed: &mut u64) -> Field {
+    const FIELDS: [(u32, u32); 4] = [(2, 0x7), (4, 0x13), (9, 0x203), (16, 0x1002b)];
+    match FIELDS.get((next(seed) % 8) as usize) {
+        Some(&(degree, poly)) => Field::new(degree, poly).unwrap_or(Field::gf2()),
+        None => Field::gf2(),
+    }
+}
+
+/// Writes an element without an order in this place, if there is one.
+fn put_random(m: &mut Mzed, r: u32, c: u32, seed: &mut u64) {
+    let field = m.field();
+    let _degree = field.e();
+    let elements = 1u64 << field.e();
+    if r < m.rows() && c < m.cols() {
+        m.put(r, c, (next(seed) % elements) as u32);
+    }
+}
+
+/// The text in this form of a matrix of a few rows and columns, where the form can hold it, else nothing.
+fn random_text(alloc: Global, form: Form, seed: &mut u64) -> Result<Vec<u8>, Fail> {
+    let field = random_field(seed);
+    let _width = field.width();
+    let rows = (next(seed) % 4) as u32;
+    let cols = (next(seed) % 70) as u32;
+    let mut m = Mzed::zeros(alloc, field, rows, cols)?;
+    for r in 0..rows {
+        for c in 0..cols {
+            put_random(&mut m, r, c, seed);
+        }
+    }
+    let mut sink = MemSink::new(alloc, 2000, Vec::new(alloc))?;
+    if can_write(&m, form) {
+        write_text(&m, form, &mut sink)?;
+    }
+    Ok(Vec::from_slice(alloc, sink.taken())?)
+}
+
+/// The text with one byte exchanged, dropped or doubled, or as it is.
+fn spoiled(alloc: Global, text: &[u8], seed: &mut u64) -> Result<Vec<u8>, Fail> {
+    const BYTES: [u8; 8] = *b"01f -\n2a";
+    let place = (next(seed) % (text.len() as u64 + 1)) as usize;
+    let mut bytes = Vec::new(alloc);
+    let how = next(seed) % 4;
+    for (at, byte) in text.iter().enumerate() {
+        if at != place || how == 0 {
+            bytes.push(*byte)?;
+        } else if how == 1 {
+            bytes.push(BYTES[(next(seed) % 8) as usize])?;
+        } else if how == 2 {
+            bytes.push(*byte)?;
+            bytes.push(*byte)?;
+        }
+    }
+    Ok(bytes)
+}
+
+/// Reads the bytes in three pieces.
+fn read_in_three(
+    alloc: Global,
+    form: Form,
+    bytes: &[u8],
+    first: usize,
+    second: usize,
+) -> Result<Mzed, TextFault> {
+    let second = second.min(bytes.len());
+    let first = first.min(second);
+    let mut reader = Reader::new(alloc, form);
+    let _ = reader.feed(&bytes[..first]);
+    let _ = reader.feed(&bytes[first..second]);
+    let _ = reader.feed(&bytes[second..]);
+    reader.finish()
+}
+
+#[test]
+fn cuts_change_no_answer(rt: HostRuntime) -> Result<(), Fail> {
+    const FORMS: [Form; 4] = [Form::Headed, Form::Hex, Form::Bare, Form::Jcf];
+    let alloc = rt.alloc();
+    let mut seed = 0x9e37_79b9_7f4a_7c15;
+    for case in 0..400usize {
+        let form = FORMS[case % 4];
+        let text = random_text(alloc, form, &mut seed)?;
+        let bytes = spoiled(alloc, &text, &mut seed)?;
+        let first = (next(&mut seed) % 300) as usize;
+        let second = (next(&mut seed) % 300) as usize;
+        let whole = read_in_three(alloc, form, &bytes, 0, 0);
+        match (whole, read_in_three(alloc, form, &bytes, first, second)) {
+            (Ok(a), Ok(b)) => assert!(rt; a == b),
+            (Err(a), Err(b)) => assert_eq!(rt; a, b),
+            _ => assert!(rt; false, "case {case}"),
+        }
     }
     Ok(())
 }
