@@ -22,7 +22,7 @@ use Rattle.m4_newton.proofs.WindowLemmas.{still_around}
 use Rattle.m4_mzed.specs.Rows.{multiples}
 use Rattle.m4_newton.specs.Entries.{AreEntries, AreBoth}
 use Rattle.m4_newton.specs.NjTables.{IsNjTable, filled_of, Filled, entries_for}
-use Rattle.m4_mul.proofs.PlainLemmas.{row_sum_assoc, with_row-with_row}
+use Rattle.m4_mul.proofs.PlainLemmas.{row_sum_assoc}
 use Rattle.m4_newton.proofs.EntryLemmas.{multiples_one, multiples_sum, row_elements}
 
 -- the parts of a table over a field of a degree up to 8, and above
@@ -127,11 +127,14 @@ module _ (E N : Matrix) (filled : ℕ) (told : Filled) (dst : EWindow) (inv : Is
   carried = subst IsCarried over inv.carried
 
   -- entry i, which is the row times x
+  entry_row : (i x : ℕ) → take filled (row E i) ≡ multiples E.field x (take filled (row E 1)) → row N i ≡ multiples dst.field x told.row
+  entry_row i x is = ap (λ (M : Matrix). row M i) narrowed ∙ row_narrow E filled i ∙ is ∙ ap₂ (λ (F : Field) ys. multiples F x ys) over first_row
+
   entry : (i x : ℕ) → i < E.rows → take filled (row E i) ≡ multiples E.field x (take filled (row E 1)) → multiples dst.field 1 (row N i) ≡ multiples dst.field x told.row
   entry i x below is =
       let P : Field → Type 0 = λ F. All (IsElement F) (row N i) in
       multiples_one dst.field carried (row N i) (subst P (ap (λ (M : Matrix). M.field) narrowed ∙ over) (row_elements N i shape (omega (arith, below, ap (λ (M : Matrix). M.rows) narrowed))))
-      ∙ ap (λ (M : Matrix). row M i) narrowed ∙ row_narrow E filled i ∙ is ∙ ap₂ (λ (F : Field) ys. multiples F x ys) over first_row
+      ∙ entry_row i x is
 
   pub low_added : (next : EWindow) (r x : ℕ) → E.field.degree ≤ 8 → x < 2 ^ dst.field.degree
       → next ≡ showing dst (with_row (content dst) r (row_sum (row (content dst) r) (multiples dst.field 1 (row N x))))
@@ -144,11 +147,10 @@ module _ (E N : Matrix) (filled : ℕ) (told : Filled) (dst : EWindow) (inv : Is
       written ∙ ap (λ ys. showing dst (with_row (content dst) r (row_sum (row (content dst) r) ys)))
       (entry x x (omega (arith, below, inv.rows, few_entries E.field.degree small)) (inv.low x (subst Q (sym least) below)))
 
-  pub high_added : (mid next : EWindow) (r x : ℕ) → 8 < E.field.degree → x < 2 ^ dst.field.degree → r < dst.rows → dst.cols ≡ filled → length told.row ≡ dst.cols
-      → mid ≡ showing dst (with_row (content dst) r (row_sum (row (content dst) r) (multiples dst.field 1 (row N (x % 256)))))
-      → next ≡ showing mid (with_row (content mid) r (row_sum (row (content mid) r) (multiples mid.field 1 (row N (256 + x / 256)))))
+  pub high_added : (next : EWindow) (r x : ℕ) → 8 < E.field.degree → x < 2 ^ dst.field.degree → r < dst.rows → length told.row ≡ dst.cols
+      → next ≡ showing dst (with_row (content dst) r (row_sum (row_sum (row (content dst) r) (row N (x % 256))) (row N (256 + x / 256))))
       → next ≡ showing dst (with_row (content dst) r (row_sum (row (content dst) r) (multiples dst.field x told.row)))
-  high_added mid next r x large element below cols long first second =
+  high_added next r x large element below long written =
       let F = dst.field in
       let xs = row (content dst) r in
       let ys = multiples F (x % 256) told.row in
@@ -157,21 +159,14 @@ module _ (E N : Matrix) (filled : ℕ) (told : Filled) (dst : EWindow) (inv : Is
       let Q : ℕ → Type 0 = λ k. x % 256 < 2 ^ k in
       let P : Field → Type 0 = λ G. x < 2 ^ G.degree in
       let small : x / 256 < 2 ^ (E.field.degree - 8) = high_small E.field.degree x large (subst P (sym over) element) in
-      let rows : E.rows ≡ 256 + 2 ^ (E.field.degree - 8) = inv.rows ∙ many_entries E.field.degree large in
-      let high : r < length dst.entries = omega (arith, dst_shape.height, below) in
-      let one : mid ≡ showing dst (with_row (content dst) r (row_sum xs ys))
-      = first ∙ ap (λ us. showing dst (with_row (content dst) r (row_sum xs us))) (entry (x % 256) (x % 256) (omega (arith, rows)) (inv.low (x % 256) (subst Q (sym least) (omega arith)))) in
-      let two : multiples mid.field 1 (row N (256 + x / 256)) ≡ zs
-      = ap (λ (v : EWindow). multiples v.field 1 (row N (256 + x / 256))) one ∙ entry (256 + x / 256) (x / 256 * 2 ^ 8) (omega (arith, rows, small)) (inv.high (x / 256) large small) in
       let wide : length xs ≡ dst.cols = dst_shape.width r below in
       let ys_long : length ys ≡ length xs = length-map told.row (λ y. mul F y (x % 256)) ∙ long ∙ sym wide in
       let zs_long : length zs ≡ length xs = length-map told.row (λ y. mul F y (x / 256 * 2 ^ 8)) ∙ long ∙ sym wide in
       let all : bit_xor (x % 256) (x / 256 * 2 ^ 8) ≡ x
       = xor_comm (x % 256) (x / 256 * 2 ^ 8) ∙ xor_shifted (x / 256) 8 (x % 256) (omega arith) ∙ (let e : x / 256 * 2 ^ 8 + x % 256 ≡ x = omega arith in e) in
-      second
-      ∙ ap₂ (λ us vs. showing mid (with_row (content mid) r (row_sum us vs))) (ap (λ (v : EWindow). row (content v) r) one ∙ get_or-set_same dst.entries r (row_sum xs ys) [] high) two
-      ∙ ap (λ (v : EWindow). showing v (with_row (content v) r (row_sum (row_sum xs ys) zs))) one
-      ∙ ap (showing dst) (with_row-with_row (content dst) r (row_sum xs ys) (row_sum (row_sum xs ys) zs))
+      written
+      ∙ ap₂ (λ us vs. showing dst (with_row (content dst) r (row_sum (row_sum xs us) vs)))
+      (entry_row (x % 256) (x % 256) (inv.low (x % 256) (subst Q (sym least) (omega arith)))) (entry_row (256 + x / 256) (x / 256 * 2 ^ 8) (inv.high (x / 256) large small))
       ∙ ap (λ us. showing dst (with_row (content dst) r us)) (row_sum_assoc xs ys zs ys_long zs_long ∙ ap (row_sum xs) (multiples_sum F carried (x % 256) (x / 256 * 2 ^ 8) told.row ∙ ap (λ k. multiples F k told.row) all))
 
 -- the length of the row

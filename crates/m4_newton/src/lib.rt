@@ -15,6 +15,6 @@ mod tests;
 
 pub use add_mul::EAddMul;
 pub use bits::OverBits;
-pub use newton::Newton;
+pub use newton::{MOST_STRIP, Newton};
 pub use nj_table::NjTable;
 pub use plain::EPlain;

@@ -21,10 +21,16 @@ use std::sync::ledger::{Blank, Ledger};
 /// The bits of a word.
 const WORD: u32 = 64;
 
-/// A strip takes at most so many words of columns of the first factor, and so many times the words of a row of the second at
-/// most so many that its multiples have two megabytes.
+/// The most words of columns of the first factor that a strip takes: over 4,096 columns the cost of a call of the engine for bits
+/// is well spread.
 const STRIP_WORDS: u32 = 64;
 
+/// The most columns, in bits, of the first factor that `Newton` asks its engine for bits to take at once.
+pub const MOST_STRIP: u32 = STRIP_WORDS * WORD;
+
+/// The most words of columns of a strip, times the words of a row of the second factor: the multiples, 64 rows for each word of
+/// columns, then have at most two megabytes, about what a cache of the second level holds. A product within both bounds is made
+/// at once, and others strip by strip.
 const ROOM_WORDS: u32 = 4096;
 
 /// The engine that multiplies over a field by an engine over GF(2).

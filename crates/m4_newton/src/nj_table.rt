@@ -76,7 +76,7 @@ impl NjTable {
         steps.tick();
     }
 
-    /// Adds `x` times the row that the table is filled from to row `r` of `dst`. All else stays.
+    /// Adds `x` times the row that the table is filled from to row `r` of `dst`, in one pass. All else stays.
     pub fn add_multiple(&self, dst: &mut EWinMut, r: u32, x: u32)
         requires field { dst.old.field ≡ self.now.field }
         requires cols { length self.now.row ≡ dst.old.cols }
@@ -92,8 +92,7 @@ impl NjTable {
         if field.e() <= LOW {
             dst.add_multiple(r, &entries, x, 1);
         } else {
-            dst.add_multiple(r, &entries, x % 256, 1);
-            dst.add_multiple(r, &entries, 256 + x / 256, 1);
+            dst.add_both(r, &entries, x % 256, &entries, 256 + x / 256);
         }
     }
 }

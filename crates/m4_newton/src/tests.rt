@@ -1,11 +1,12 @@
-//! Products over fields of every width, into a window inside a matrix, by an engine for bits, and by a product over GF(2).
+//! Products over fields of every width, into a window inside a matrix, by an engine for bits, and by a product over GF(2), and
+//! multiples of a row by a table.
 
-ghost use Rattle.std.specs.Prelude.{◌≡◌, ◌+◌, ◌^◌, ◌<◌, ◌≤◌, IfOk};
+ghost use Rattle.std.specs.Prelude.{◌≡◌, ◌+◌, ◌^◌, ◌<◌, ◌≤◌, IfOk, length};
 ghost use Rattle.m4_model.specs.Field.{gf2};
 ghost use Rattle.m4_field.specs.Fields.{the_field};
 ghost use Rattle.m4_mzd.specs.Reach.{IsReached};
 
-use crate::{EAddMul, EPlain, Newton, OverBits};
+use crate::{EAddMul, EPlain, Newton, NjTable, OverBits};
 use m4_field::Field;
 use m4_model::NoMemory;
 use m4_mul::{Plain, Table};
@@ -293,6 +294,61 @@ fn each_row_of_the_second_factor_is_a_step(rt: HostRuntime) -> Result<(), Fail> 
     if let Ok(field) = Field::new(4, 0x1f) {
         let entry = entry_of_counted::<Brand>(rt.alloc(), field, Blank::new(1))?;
         assert_eq!(rt; entry, field.mul(0xf, 0xf));
+    }
+    Ok(())
+}
+
+// Whether a table adds `x` times the row that it is filled from, the second of `b`.
+fn adds_multiple(alloc: Global, table: &NjTable, b: &Mzed, x: u32) -> Result<bool, NoMemory>
+    requires field { b.now.field ≡ table.now.field }
+    requires rows { b.now.rows ≡ 2 }
+    requires cols { b.now.cols ≡ 70 }
+    requires long { length table.now.row ≡ 70 }
+    requires element { x < 2 ^ b.now.field.degree }
+{
+    let mut c = mixed(alloc, b.field(), 1, 70)?;
+    let mut d = c.copy(alloc)?;
+    let (mut all, home) = c.all_mut();
+    table.add_multiple(&mut all, 0, x);
+    c.put_all(all, home);
+    let (mut whole, place) = d.all_mut();
+    whole.add_multiple(0, &b.all(), 1, x);
+    d.put_all(whole, place);
+    Ok(c == d)
+}
+
+// Whether a table adds 64 multiples of a row.
+fn table_agrees<L: Ledger>(alloc: Global, field: Field, blank: Blank) -> Result<bool, NoMemory>
+    requires name { blank.name ≡ L.name }
+    requires parts { blank.parts ≡ L.parts }
+    requires one { blank.parts ≡ 1 }
+{
+    let mut steps = Steps::<L>::new(blank);
+    let _degree = field.e();
+    let elements = 1u32 << field.e();
+    let b = mixed(alloc, field, 2, 70)?;
+    let _rows = b.rows();
+    let mut table = NjTable::new(alloc, field, 70)?;
+    table.fill(&b.all(), 1, &mut steps);
+    for k in 0..64u32 {
+        if !adds_multiple(alloc, &table, &b, k * 1021 % elements)? {
+            return Ok(false);
+        }
+    }
+    Ok(true)
+}
+
+// Degrees with one part of a table, and with two, and a polynomial of each.
+const TABLED: [(u32, u32); 5] = [(2, 7), (8, 0x11b), (9, 0x203), (13, 0x201b), (16, 0x1002b)];
+
+#[test]
+fn tables_add_each_multiple_of_a_row(rt: HostRuntime) -> Result<(), Fail> {
+    for case in &TABLED {
+        let right = match Field::new(case.0, case.1) {
+            Ok(field) => table_agrees::<Brand>(rt.alloc(), field, Blank::new(1))?,
+            Err(_) => false,
+        };
+        assert!(rt; right);
     }
     Ok(())
 }

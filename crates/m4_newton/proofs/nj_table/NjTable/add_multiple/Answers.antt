@@ -20,18 +20,8 @@ add_multiple-requires-clause-element c =
     let P : Field → Type 0 = λ F. 1 < 2 ^ F.degree in
     subst P (ap (λ (t : Filled). t.field) c.self.view_is ∙ sym c.requires.field) (one_small _ c.self.invariant.carried)
 
-pub add_multiple-requires-else-e-le-LOW-clause-element : goal.add_multiple-requires-else-e-le-LOW-clause-element
-add_multiple-requires-else-e-le-LOW-clause-element c =
-    let P : Field → Type 0 = λ F. 1 < 2 ^ F.degree in
-    subst P (ap (λ (t : Filled). t.field) c.self.view_is ∙ sym c.requires.field) (one_small _ c.self.invariant.carried)
-
-pub add_multiple-requires-else-e-le-LOW-2-clause-element : goal.add_multiple-requires-else-e-le-LOW-2-clause-element
-add_multiple-requires-else-e-le-LOW-2-clause-element c =
-    let P : Field → Type 0 = λ F. 1 < 2 ^ F.degree in
-    subst P (ap (λ (t : Filled). t.field) c.self.view_is ∙ sym c.requires.field ∙ sym (ap (λ (v : EWindow). v.field) c.add_multiple-else-e-le-LOW.ensures)) (one_small _ c.self.invariant.carried)
-
-pub add_multiple-requires-else-e-le-LOW-2-clause-in_from : goal.add_multiple-requires-else-e-le-LOW-2-clause-in_from
-add_multiple-requires-else-e-le-LOW-2-clause-in_from c =
+pub add_both-requires-clause-in_b : goal.add_both-requires-clause-in_b
+add_both-requires-clause-in_b c =
     let E = c.self.inside.entries in
     let over : c.args.dst.now.field ≡ E.field = c.requires.field ∙ sym (ap (λ (t : Filled). t.field) c.self.view_is) in
     let P : Field → Type 0 = λ F. c.args.x < 2 ^ F.degree in
@@ -55,10 +45,8 @@ returns-then-e-le-LOW c =
 pub returns-else-e-le-LOW : goal.returns-else-e-le-LOW
 returns-else-e-le-LOW c =
     let E = c.self.inside.entries in
-    let long = filled_long E c.self.inside.filled c.rows-all.ensures.matrix (omega (arith, some_entries E.field.degree c.self.invariant.carried.degree_low, c.self.invariant.rows)) c.self.invariant.few in
     high_added E (e_shown c.narrow-entries.result) c.self.inside.filled c.args.self.now c.args.dst.now c.self.invariant c.self.view_is c.rows-entries.ensures.matrix c.rows-rows.ensures.matrix
     (c.narrow-entries.ensures ∙ ap (λ (M : Matrix). record M { cols = c.self.inside.filled; entries = map (take c.self.inside.filled) M.entries }) c.all.ensures) c.requires.field
-    c.add_multiple-else-e-le-LOW.new.self c.add_multiple-else-e-le-LOW-2.new.self c.args.r c.args.x
-    (omega (arith, c.if-e-le-LOW.false, c.e.ensures.degree, ap (λ (F : Field). F.degree) c.field-field.ensures)) c.requires.element c.requires.in_rows
-    (sym c.requires.cols ∙ sym (ap (λ (t : Filled). length t.row) c.self.view_is) ∙ long) c.requires.cols
-    c.add_multiple-else-e-le-LOW.ensures c.add_multiple-else-e-le-LOW-2.ensures
+    c.add_both.new.self c.args.r c.args.x
+    (omega (arith, c.if-e-le-LOW.false, c.e.ensures.degree, ap (λ (F : Field). F.degree) c.field-field.ensures)) c.requires.element c.requires.in_rows c.requires.cols
+    c.add_both.ensures
