@@ -1,7 +1,6 @@
 -- The engines that multiply: which one is asked for, in which sizes, how large the products are that it takes, and when it can
 -- be called.
-use Rattle.std.specs.Prelude.{◌≡◌, ℕ, ⊤, ⊥}
-use Rattle.std.specs.Prelude.{◌×◌}
+use Rattle.std.specs.Prelude.{◌≡◌, ℕ, ⊤}
 use Rattle.m4_model.specs.declared.choices.Algo.{Algo}
 use Rattle.m4_model.specs.declared.choices.Algo.TheVariants as algos
 use Rattle.m4_mzd.specs.declared.TheConstants.{MOST_SIDE}

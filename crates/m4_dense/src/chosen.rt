@@ -2,11 +2,13 @@
 
 ghost use Rattle.std.specs.Prelude.{◌≡◌, ◌≤◌, unwrap_or};
 ghost use Rattle.m4_model.specs.declared.choices.Algo.TheVariants.{Table};
+ghost use Rattle.m4_gray.specs.declared.TheConstants.{MOST_K, MOST_TABLES};
+ghost use Rattle.m4_model.specs.declared.choices.TheConstants.{LEAST_CUTOFF, MOST_CUTOFF};
 ghost use Rattle.m4_dense.specs.Default.{fastest_algo, fastest_k};
 
 use crate::how::How;
-use m4_model::{Algo, LEAST_CUTOFF, MOST_CUTOFF};
-use m4_mul::{MOST_K, MOST_TABLES};
+use m4_model::Algo;
+use m4_mul::MOST_TABLES;
 use m4_mzd::Shape;
 
 /// The least side of a product from which halves pay.
@@ -46,8 +48,9 @@ impl Chosen {
     {
         Chosen {
             algo: how.algo.unwrap_or(fastest_algo(shape)),
+            k: how.k.unwrap_or(fastest_k(shape)),
+            tables: tables(how),
             cutoff: how.cutoff.unwrap_or(PRODUCT_CUTOFF),
-            ..Chosen::for_elimination(how, shape)
         }
     }
 
@@ -61,10 +64,19 @@ impl Chosen {
         Chosen {
             algo: how.algo.unwrap_or(Algo::Table),
             k: how.k.unwrap_or(fastest_k(shape)),
-            tables: how.tables.unwrap_or(MOST_TABLES),
+            tables: tables(how),
             cutoff: how.cutoff.unwrap_or(ELIMINATION_CUTOFF),
         }
     }
+}
+
+/// How many tables are used at a time.
+fn tables(how: How) -> u32
+    ensures tables { result ≡ unwrap_or how.tables MOST_TABLES }
+    ensures some { 1 ≤ result }
+    ensures few { result ≤ MOST_TABLES }
+{
+    how.tables.unwrap_or(MOST_TABLES)
 }
 
 /// The algorithm of products of this shape.
