@@ -19,7 +19,7 @@ const BY_ROWS: u32 = 256;
 
 /// Brings the right columns up to the left ones, whose first `r` columns hold L: their rows are exchanged as `p` tells, the
 /// first `r` of them become the solution with L's triangle, and L's lower rows times this is added to the others.
-pub(crate) fn bring_up<M: EAddMul>(
+pub fn bring_up<M: EAddMul>(
     left: &EWin,
     right: &mut EWinMut,
     p: &[u32],
