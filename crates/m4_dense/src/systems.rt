@@ -41,19 +41,18 @@ pub fn reduced_form(alloc: Global, how: How, a: Mzed) -> Result<Mzed, NoMemory>
     Ok(Mzed::of_bits(form))
 }
 
-/// The inverse of a square matrix of at most 2^23 rows over GF(2), or `None` where there is none: then the matrix takes a
+/// The inverse of a square matrix over GF(2), or `None` where there is none: then the matrix takes a
 /// column that isn't zero to zero.
 ///
-/// It takes memory for the inverse, and for the matrix beside the identity, whose reduced form has the inverse on its
-/// right.
+/// It takes memory for the inverse, for a copy of the matrix, of which a PLE is made, for a number for each row and each
+/// column, and for a row. The two triangles are solved over the identity, in the place of the inverse.
 pub fn inverse(alloc: Global, how: How, a: &Mzed) -> Result<Option<Mzed>, NoMemory>
     requires over_gf2 { a.now.field ≡ gf2 }
     requires square { a.now.cols ≡ a.now.rows }
-    requires few_cols { a.now.cols + a.now.cols ≤ MOST_SIDE }
     ensures { IfOk result (TellsInverse a.now) }
 {
     let bits = a.all().into_bits();
-    let mut context = context(alloc, how, bits.rows(), bits.cols() + bits.cols())?;
+    let mut context = context(alloc, how, bits.rows(), bits.cols())?;
     match invert(alloc, &bits, &mut context)? {
         Inverse::Is(inverse) => Ok(Some(Mzed::of_bits(inverse))),
         Inverse::Singular => Ok(None),
@@ -61,20 +60,20 @@ pub fn inverse(alloc: Global, how: How, a: &Mzed) -> Result<Option<Mzed>, NoMemo
 }
 
 /// The solution X of A X = B over GF(2), for each column of an m x n matrix B, or `None` where there is none. A is an m x l
-/// matrix, X is l x n, and l + n is at most 2^24. Of all solutions it is the one whose rows at the free columns of A are
-/// zero.
+/// matrix, and X is l x n. Of all solutions it is the one whose rows at the free columns of A are zero.
 ///
-/// It takes memory for the solution, and for A beside B, of whose reduced form it is read off.
+/// It takes memory for the solution, for a copy of each matrix, for a number for each row and each column of A, and for a
+/// row; and where the r pivots aren't A's first columns for an r x r matrix. A PLE is made of A, its L is solved over the
+/// copy of B, what remains past the rank is tested for zero, and the pivot columns of E are solved.
 pub fn solution(alloc: Global, how: How, a: &Mzed, b: &Mzed) -> Result<Option<Mzed>, NoMemory>
     requires over_gf2 { a.now.field ≡ gf2 }
     requires same_field { b.now.field ≡ a.now.field }
     requires same_rows { b.now.rows ≡ a.now.rows }
-    requires few_cols { a.now.cols + b.now.cols ≤ MOST_SIDE }
     ensures { IfOk result (TellsSolution a.now b.now) }
 {
     let left = a.all().into_bits();
     let right = b.all().into_bits();
-    let mut context = context(alloc, how, left.rows(), left.cols() + right.cols())?;
+    let mut context = context(alloc, how, left.rows(), left.cols().max(right.cols()))?;
     match solve(alloc, &left, &right, &mut context)? {
         Solution::Is(solution) => Ok(Some(Mzed::of_bits(solution))),
         Solution::NoSolution => Ok(None),

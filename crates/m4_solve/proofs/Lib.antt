@@ -1,7 +1,10 @@
+pub mod Equations
+pub mod Fronts
+pub mod Gathers
 pub mod KernelLemmas
 pub mod KernelRows
 pub mod Ranks
-pub mod ReadOff
+pub mod Reached
 pub mod Risings
-pub mod Solutions
+pub mod Solved
 pub mod Sweeps

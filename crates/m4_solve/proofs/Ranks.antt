@@ -3,15 +3,14 @@ use Rattle.std.proofs.Common.{◌≡◌, ◌≢◌, ℕ, zero, suc, ◌+◌, ◌
 use Rattle.std.proofs.lemmas.Bool.{cases_lt}
 use Rattle.m4_model.specs.Field.{gf2}
 use Rattle.m4_model.specs.Matrix.{Matrix, IsMatrix}
-use Rattle.m4_model.specs.Rank.{IsRising, IsFree, ArePivots, IsRank}
-use Rattle.m4_model.specs.Forms.{Reduced, IsKernel}
+use Rattle.m4_model.specs.Rank.{IsRising, ArePivots, IsRank}
+use Rattle.m4_model.specs.Forms.{Reduced}
 use Rattle.m4_model.proofs.FieldLaws.{FieldLaws}
 use Rattle.m4_model.proofs.Gf2Lemmas.{gf2_laws}
 use Rattle.m4_model.proofs.ShapeLemmas.{HasShape-product}
 use Rattle.m4_model.proofs.EchelonLemmas.{place_of}
 use Rattle.m4_model.proofs.ExchangeLemmas.{rising_room}
 use Rattle.m4_model.proofs.FormLemmas.{pivots_of_reduced}
-use Rattle.m4_model.proofs.RankLemmas.{Contains_none}
 use Rattle.m4_solve.specs.Kernel.{AreOthers}
 use Rattle.m4_solve.specs.Reduction.{IsReducedAt}
 

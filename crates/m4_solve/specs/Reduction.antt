@@ -1,8 +1,7 @@
 -- The reduced form in place: an echelon form whose pivot columns are cleared above the pivots, one after another.
-use Rattle.std.specs.Prelude.{◌≡◌, ◌≢◌, ℕ, ◌+◌, ◌-◌, ◌<◌, ◌≤◌, ◌⊎◌, List, length, slice_index, map, bit_xor, nat_lt, ◌==◌, if◌then◌else◌}
+use Rattle.std.specs.Prelude.{◌≡◌, ℕ, ◌≤◌, ◌⊎◌, List, length, map, bit_xor, nat_lt, ◌==◌, if◌then◌else◌}
 use Rattle.std.specs.List.{range_with_len}
-use Rattle.m4_model.specs.Field.{gf2}
-use Rattle.m4_model.specs.Matrix.{Matrix, HasShape, at, matrix_of}
+use Rattle.m4_model.specs.Matrix.{Matrix, at, matrix_of}
 use Rattle.m4_model.specs.Forms.{IsReduced}
 use Rattle.m4_solve.specs.declared.room.Room.{Room}
 
@@ -23,12 +22,6 @@ swept k c W = matrix_of W.field W.rows W.cols (λ i j. if nat_lt i k then swept_
 pub record IsReducedAt (R A : Matrix) (pivots : List ℕ) : Type 0 where
   pub form : IsReduced R A
   pub at_pivots : form.pivots ≡ pivots
-
--- X has n rows: the one at each pivot q_s is row s of R from column n on, and the others are zero.
-pub record IsReadOff (R : Matrix) (q : List ℕ) (n : ℕ) (X : Matrix) : Type 0 where
-  pub shape : HasShape gf2 n (R.cols - n) X
-  pub at_pivot : (s t : ℕ) → s < length q → t < R.cols - n → at X (slice_index q s) t ≡ at R s (n + t)
-  pub elsewhere : (j t : ℕ) → j < n → t < R.cols - n → ((s : ℕ) → s < length q → slice_index q s ≢ j) → at X j t ≡ 0
 
 -- Room for a matrix of so many rows and columns.
 pub record IsRoomFor (rows cols : ℕ) (room : Room) : Type 0 where

@@ -110,7 +110,7 @@ pub fn rank<M: AddMul>(alloc: Global, a: &Win, ctx: &mut Ctx<M>) -> Result<u32, 
 }
 
 /// A matrix of its own with what the window shows.
-fn copied(alloc: Global, a: &Win) -> Result<Mzd, NoMemory>
+pub(crate) fn copied(alloc: Global, a: &Win) -> Result<Mzd, NoMemory>
     ensures { IfOk result (λ m. m ≡ shown a.now) }
 {
     let mut copy = Mzd::zeros(alloc, a.rows(), a.cols())?;

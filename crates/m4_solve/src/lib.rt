@@ -4,7 +4,10 @@
 mod answers;
 mod basis;
 mod context;
+mod factored;
+mod first;
 mod forms;
+mod gather;
 mod reduce;
 mod room;
 mod systems;

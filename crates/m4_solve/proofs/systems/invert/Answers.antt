@@ -1,58 +1,83 @@
-use Rattle.std.proofs.Common.{◌≡◌, ℕ, refl, ◌∙◌, subst, ap, arith}
+use Rattle.std.proofs.Common.{◌≡◌, refl, ◌∙◌, sym, subst, ap, length, min, arith}
+use Rattle.std.proofs.Math.Nat.{min-le_left, min-le_right}
 use Rattle.m4_model.specs.Field.{gf2}
-use Rattle.m4_model.specs.Matrix.{Matrix, identity}
-use Rattle.m4_model.specs.Shapes.{beside}
-use Rattle.m4_model.proofs.Gf2Lemmas.{gf2_laws}
+use Rattle.m4_model.specs.Matrix.{Matrix, HasShape, identity}
+use Rattle.m4_model.specs.Shapes.{swaps}
+use Rattle.m4_model.specs.Step.{reordered}
+use Rattle.m4_model.specs.Forms.{IsInverse}
+use Rattle.m4_mzd.specs.Reach.{IsReached}
 use Rattle.m4_mzd.specs.Seen.{shown}
-use Rattle.m4_solve.specs.Reduction.{IsReadOff}
-use Rattle.m4_solve.proofs.Ranks.{pivots_seen, rising_at, rank_at}
-use Rattle.m4_solve.proofs.Solutions.{singular_at, inverse_at}
+use Rattle.m4_mzd.specs.declared.add_mul.Shape.{Shape}
+use Rattle.m4_eple.specs.Halves.{IsBroughtUp}
+use Rattle.m4_solve.specs.Factored.{IsFactored}
+use Rattle.m4_solve.proofs.Reached.{reached_for}
+use Rattle.m4_solve.proofs.Solved.{singular_is, inverse_is}
 use Rattle.m4_solve.proofs.systems.invert.Goals as goal
 
-pub are_first-requires-clause-rising : goal.are_first-requires-clause-rising
-are_first-requires-clause-rising g c =
-    rising_at (pivots_seen _ _ _ _ _ c.as_slice-pivots.ensures.value refl c.in_ok-form.ensures.reduced)
-
-pub are_first-requires-clause-few : goal.are_first-requires-clause-few
-are_first-requires-clause-few g c =
-    let few = rank_at (pivots_seen _ _ _ _ _ c.as_slice-pivots.ensures.value c.in_ok-both.ensures c.in_ok-form.ensures.reduced) in
-    let width = c.cols-n.ensures.cols in
-    let square = c.requires.square in
-    omega (arith, few, width, square)
-
-pub read_off-requires-clause-rising : goal.read_off-requires-clause-rising
-read_off-requires-clause-rising g c =
-    rising_at (pivots_seen _ _ _ _ _ c.as_slice-pivots.ensures.value refl c.in_ok-form.ensures.reduced)
-
-pub read_off-requires-clause-below : goal.read_off-requires-clause-below
-read_off-requires-clause-below g c s inside =
-    let few = rank_at (pivots_seen _ _ _ _ _ c.as_slice-pivots.ensures.value c.in_ok-both.ensures c.in_ok-form.ensures.reduced) in
-    let width = c.cols-n.ensures.cols in
-    let square = c.requires.square in
-    let own = (c.if-not-are_first.ensures.all refl s (omega (arith, few, width, square, inside))).1 in
-    omega (arith, own, inside, few, width, square)
-
--- the matrix beside the identity
-made_beside : (A one both : Matrix) (n : ℕ) → both ≡ beside A one → one ≡ identity gf2 n → n ≡ A.rows → both ≡ beside A (identity gf2 A.rows)
-made_beside A one both n made is_one same = made ∙ ap (beside A) (is_one ∙ ap (identity gf2) same)
-
-pub returns-then-not-are_first-clause-inverse : goal.returns-then-not-are_first-clause-inverse
-returns-then-not-are_first-clause-inverse g c =
+pub new-requires-clause-reached : goal.new-requires-clause-reached
+new-requires-clause-reached g c =
     let A = shown c.args.a.now in
-    let both = made_beside A _ _ c.cols-n.result c.in_ok-both.ensures (c.all.ensures ∙ c.in_ok-one.ensures) (c.cols-n.ensures.cols ∙ c.requires.square) in
-    let reduced = pivots_seen _ _ _ _ _ c.as_slice-pivots.ensures.value both c.in_ok-form.ensures.reduced in
-    let missing = c.if-not-are_first.ensures.missing refl in
-    let width = c.cols-n.ensures.cols in
-    let low = missing.1 in
-    singular_at A _ _ gf2_laws c.cols-n.ensures.matrix refl c.requires.square reduced missing.0 (omega (arith, low, width)) missing.2
+    let same : c.of_bits-copy.result ≡ A = c.of_bits-copy.ensures ∙ c.in_ok-copied.ensures in
+    subst (λ (M : Matrix). IsReached (g.M.AddMul.limits c.args.ctx.now.engine.engine) M.rows (min M.rows M.cols) M.cols) (sym same)
+    (reached_for (g.M.AddMul.limits c.args.ctx.now.engine.engine) A.rows A.cols A.rows (min A.rows A.cols) A.cols c.requires.serves.reached
+    (omega arith) (min-le_left A.rows A.cols) (min-le_right A.rows A.cols) (omega arith))
+
+pub bring_up-requires-clause-reached : goal.bring_up-requires-clause-reached
+bring_up-requires-clause-reached g c =
+    let A = shown c.args.a.now in
+    let f = c.in_ok-factored.factored in
+    let copy : c.of_bits-copy.result ≡ A = c.of_bits-copy.ensures ∙ c.in_ok-copied.ensures in
+    let same : c.of_bits-x.result ≡ identity gf2 c.cols-n.result = c.of_bits-x.ensures ∙ c.in_ok-identity.ensures in
+    let factored : IsFactored A f = subst (λ (M : Matrix). IsFactored M f) copy c.in_ok-factored.ensures.factored in
+    let n = c.cols-n.ensures.cols in
+    let square = c.requires.square in
+    subst (λ (L : Shape). IsReached L c.of_bits-x.result.rows (length f.pivots.items) c.of_bits-x.result.cols) (sym c.in_ok-factored.ensures.reach)
+    (subst (λ (M : Matrix). IsReached (g.M.AddMul.limits c.args.ctx.now.engine.engine) M.rows (length f.pivots.items) M.cols) (sym same)
+    (reached_for (g.M.AddMul.limits c.args.ctx.now.engine.engine) A.rows A.cols c.cols-n.result (length f.pivots.items) c.cols-n.result c.requires.serves.reached
+    (omega (arith, n, square)) factored.few_rows factored.few_cols (omega (arith, n))))
+
+pub solve_pivots-requires-clause-reached : goal.solve_pivots-requires-clause-reached
+solve_pivots-requires-clause-reached g c =
+    let A = shown c.args.a.now in
+    let f = c.in_ok-factored.factored in
+    let copy : c.of_bits-copy.result ≡ A = c.of_bits-copy.ensures ∙ c.in_ok-copied.ensures in
+    let same : c.of_bits-x.result ≡ identity gf2 c.cols-n.result = c.of_bits-x.ensures ∙ c.in_ok-identity.ensures in
+    let factored : IsFactored A f = subst (λ (M : Matrix). IsFactored M f) copy c.in_ok-factored.ensures.factored in
+    let cols = c.bring_up.ensures.shape.cols in
+    let own = ap (λ (M : Matrix). M.cols) same in
+    let n = c.cols-n.ensures.cols in
+    subst (λ (L : Shape). IsReached L (length f.pivots.items) (length f.pivots.items) c.bring_up.new.y.cols) (sym (c.bring_up.ensures.reach ∙ c.in_ok-factored.ensures.reach))
+    (reached_for (g.M.AddMul.limits c.args.ctx.now.engine.engine) A.rows A.cols (length f.pivots.items) (length f.pivots.items) c.bring_up.new.y.cols
+    c.requires.serves.reached factored.few_rows factored.few_rows factored.few_cols (omega (arith, cols, own, n)))
 
 pub returns-clause-inverse : goal.returns-clause-inverse
 returns-clause-inverse g c =
     let A = shown c.args.a.now in
-    let both = made_beside A _ _ c.cols-n.result c.in_ok-both.ensures (c.all.ensures ∙ c.in_ok-one.ensures) (c.cols-n.ensures.cols ∙ c.requires.square) in
-    let reduced = pivots_seen _ _ _ _ _ c.as_slice-pivots.ensures.value both c.in_ok-form.ensures.reduced in
-    let q = c.as_slice-pivots.result.now in
-    inverse_at A _ _ gf2_laws c.cols-n.ensures.matrix refl c.requires.square reduced c.in_ok-read_off.field-0
-    (subst (λ (n : ℕ). IsReadOff c.in_ok-form.form.matrix q n c.in_ok-read_off.field-0) c.cols-n.ensures.cols
-    (subst (λ (R : Matrix). IsReadOff R q c.cols-n.result c.in_ok-read_off.field-0) c.all-2.ensures c.in_ok-read_off.ensures))
-    (λ s below. let width = c.cols-n.ensures.cols in c.if-not-are_first.ensures.all refl s (omega (arith, below, width)))
+    let f = c.in_ok-factored.factored in
+    let Y = c.bring_up.new.y in
+    let Z = c.solve_pivots.new.y in
+    let copy : c.of_bits-copy.result ≡ A = c.of_bits-copy.ensures ∙ c.in_ok-copied.ensures in
+    let n : c.cols-n.result ≡ A.rows = c.cols-n.ensures.cols ∙ c.requires.square in
+    let same : c.of_bits-x.result ≡ identity gf2 A.rows = c.of_bits-x.ensures ∙ c.in_ok-identity.ensures ∙ ap (identity gf2) n in
+    let factored : IsFactored A f = subst (λ (M : Matrix). IsFactored M f) copy c.in_ok-factored.ensures.factored in
+    let y : HasShape gf2 A.rows A.rows Y = subst (λ (M : Matrix). HasShape M.field M.rows M.cols Y) same c.bring_up.ensures.shape in
+    let up : IsBroughtUp (length f.pivots.items) f.matrix (reordered (swaps A.rows f.exchanges.items) (identity gf2 A.rows)) Y
+    = subst (λ (M : Matrix). IsBroughtUp (length f.pivots.items) f.matrix (reordered (swaps M.rows f.exchanges.items) M) Y) same c.bring_up.ensures.up in
+    let long = c.len.ensures in
+    let width = c.cols-n.ensures.cols in
+    let not_few = c.if-len-n.false in
+    let all = f.pivots.ok.0 in
+    subst (λ (X : Matrix). IsInverse X A) (sym c.into_bits.ensures)
+    (inverse_is A f refl c.cols-n.ensures.matrix factored c.requires.square (omega (arith, long, width, not_few, all)) Y Z y up c.in_ok-solve_pivots.ensures.solved)
+
+pub returns-then-len-n-clause-inverse : goal.returns-then-len-n-clause-inverse
+returns-then-len-n-clause-inverse g c =
+    let A = shown c.args.a.now in
+    let f = c.in_ok-factored.factored in
+    let copy : c.of_bits-copy.result ≡ A = c.of_bits-copy.ensures ∙ c.in_ok-copied.ensures in
+    let factored : IsFactored A f = subst (λ (M : Matrix). IsFactored M f) copy c.in_ok-factored.ensures.factored in
+    let long = c.len.ensures in
+    let width = c.cols-n.ensures.cols in
+    let few = c.if-len-n.true in
+    let all = f.pivots.ok.0 in
+    singular_is A f refl c.cols-n.ensures.matrix factored c.requires.square (omega (arith, long, width, few, all))
