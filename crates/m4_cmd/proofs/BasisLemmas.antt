@@ -6,10 +6,10 @@ use Rattle.m4_model.specs.Rank.{IsRank}
 use Rattle.m4_model.specs.Text.{IsWithinLimits}
 use Rattle.m4_model.specs.declared.command.Command.TheVariants.{Kernel}
 use Rattle.m4_model.proofs.RankLemmas.{same_rank}
-use Rattle.m4_cmd.specs.Steps.{PassesBounds}
+use Rattle.m4_cmd.specs.Steps.{ExceedsBounds}
 
 -- it passes the limits with any rank where it does with one
-pub basis_past_bounds : (A : Matrix) (r : ℕ) → IsRank A r → (IsWithinLimits (width A.field) (A.cols - r) A.cols → ⊥) → PassesBounds Kernel (A ∷ [])
+pub basis_past_bounds : (A : Matrix) (r : ℕ) → IsRank A r → (IsWithinLimits (width A.field) (A.cols - r) A.cols → ⊥) → ExceedsBounds Kernel (A ∷ [])
 basis_past_bounds A r rank past = record {
   fits = tt;
   large = λ bounds.

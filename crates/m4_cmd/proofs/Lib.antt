@@ -2,3 +2,4 @@ pub mod RunLemmas
 pub mod StepLemmas
 pub mod BasisLemmas
 mod PartLemmas
+mod FileLemmas

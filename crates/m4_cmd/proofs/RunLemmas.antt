@@ -2,8 +2,7 @@
 use Rattle.std.proofs.Common.{◌≡◌, ℕ, ◌<◌, ◌⊎◌, List, [], length, Option, Some, None, Ok, Err, refl, sym, ◌∙◌, ap, subst, arith, inl, inr, append-nil, length-append}
 use Rattle.std.specs.Io.KnownBytes.{Appends, Keeps}
 use Rattle.m4_model.specs.Words.{Job, job, form_of_answer}
-use Rattle.m4_model.specs.Outcome.{Stock, Answer, status_of, fault_line}
-use Rattle.m4_cmd.specs.OverBits.{Operands, IsWritten, Outcome, can_hold_answer, text_of_answer}
+use Rattle.m4_model.specs.Outcome.{Stock, Answer, Operands, IsWritten, Outcome, status_of, can_hold_answer, text_of_answer, fault_line}
 use Rattle.m4_model.specs.declared.status.Status.{Status}
 use Rattle.m4_model.specs.declared.status.Status.TheVariants.{Done, No, Words, Text, Shape, Limit, Read, Write, Memory}
 use Rattle.m4_io.specs.Outside.{Rose, AppendsFront}
@@ -104,7 +103,7 @@ module _ (told : Option Stock) (asked : Job) (change : Change) where
     job_outcome No done judged = (text_of_answer (form_of_answer asked.choices) done.answer, written_done No done, done.wrote.taken)
     job_outcome (Words word) gives judged = absurd gives
     job_outcome (Text operand place) gives judged =
-        ([], (record { asked = asked; understood = understood; refused = gives.2 files tells }, refl), appends_nothing _ _ gives.1.taken)
+        ([], ((gives.2.0, gives.2.1, record { asked = asked; understood = understood; refused = gives.2.2 files tells }), refl), appends_nothing _ _ gives.1.taken)
     job_outcome Shape gives judged = (
       [],
       (
@@ -132,6 +131,7 @@ module _ (told : Option Stock) (asked : Job) (change : Change) where
             asked = asked;
             matrices = large.matrices;
             operands = record { understood = understood; accepted = large.read files tells };
+            served = large.passes.served;
             fits = large.passes.fits;
             large = large.passes.large;
           })

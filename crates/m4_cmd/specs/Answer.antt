@@ -1,6 +1,5 @@
 -- The answers of the code, as the definitions see them.
-use Rattle.std.specs.Prelude.{◌≡◌, codes}
-use Rattle.m4_model.specs.Field.{gf2}
+use Rattle.std.specs.Prelude.{codes}
 use Rattle.m4_model.specs.Outcome.{OneMatrix, Lines, NoAnswer, rank_line}
 use Rattle.m4_model.specs.Outcome.{Answer as Answered}
 use Rattle.m4_cmd.specs.Factors.{ple_text, pluq_text}
@@ -14,12 +13,3 @@ answer_told (answers.Ple f) = Lines (ple_text f)
 answer_told (answers.Pluq f) = Lines (pluq_text f)
 answer_told answers.Singular = NoAnswer (codes "singular\n")
 answer_told answers.NoSolution = NoAnswer (codes "no solution\n")
-
--- What stands in it is over GF(2).
-abbrev pub IsOverBits : Answer → Type 0
-IsOverBits (answers.Matrix m) = m.field ≡ gf2
-IsOverBits (answers.Rank r) = Unit {0}
-IsOverBits (answers.Ple f) = (f.l.field ≡ gf2) × (f.e.field ≡ gf2)
-IsOverBits (answers.Pluq f) = (f.l.field ≡ gf2) × (f.u.field ≡ gf2)
-IsOverBits answers.Singular = Unit {0}
-IsOverBits answers.NoSolution = Unit {0}

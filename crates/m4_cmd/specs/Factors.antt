@@ -1,7 +1,6 @@
 -- The texts of factors.
 use Rattle.std.specs.Prelude.{ℕ, List, length, codes}
-use Rattle.m4_model.specs.Outcome.{numbers_line}
-use Rattle.m4_cmd.specs.OverBits.{factors_text}
+use Rattle.m4_model.specs.Outcome.{factors_text, numbers_line}
 use Rattle.m4_dense.specs.declared.factors.PleFactors.{PleFactors}
 use Rattle.m4_dense.specs.declared.factors.PluqFactors.{PluqFactors}
 

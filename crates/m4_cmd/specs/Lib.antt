@@ -1,5 +1,5 @@
-pub mod OverBits
 pub mod Factors
 pub mod Answer
 pub mod Run
 pub mod Steps
+pub mod Files

@@ -2,8 +2,7 @@
 use Rattle.std.specs.Prelude.{◌≡◌, ℕ, ◌⊎◌, ◌↔◌, List, Option, Some, Ok, Err}
 use Rattle.std.specs.Io.KnownBytes.{Appends}
 use Rattle.m4_model.specs.Words.{Job, job}
-use Rattle.m4_model.specs.Outcome.{Stock, code_of, fault_line}
-use Rattle.m4_cmd.specs.OverBits.{MissingOperand, Outcome}
+use Rattle.m4_model.specs.Outcome.{Stock, MissingOperand, Outcome, code_of, fault_line}
 use Rattle.m4_model.specs.declared.status.Status.{Status}
 use Rattle.m4_model.specs.declared.status.Status.TheVariants.{Done, No, Words, Text, Shape, Limit, Read, Write, Memory}
 use Rattle.m4_io.specs.Outside.{Rose, AppendsFront}

@@ -1,14 +1,13 @@
 -- What the steps of a run give: the operands, the command's answer, its writing, and the job; and why a step fails, by cases on
 -- its faults.
-use Rattle.std.specs.Prelude.{◌≡◌, ℕ, ◌≤◌, ◌⊎◌, List, Option, Some, Ok, Err}
+use Rattle.std.specs.Prelude.{◌≡◌, ℕ, ◌≤◌, ◌⊎◌, List, All, Option, Some, Ok, Err}
 use Rattle.std.specs.Io.KnownBytes.{Appends}
 use Rattle.m4_model.specs.Field.{gf2}
 use Rattle.m4_model.specs.Matrix.{Matrix}
-use Rattle.m4_model.specs.Text.{Fault, BadAt, PastLimit}
-use Rattle.m4_model.specs.Texts.{ReadsAs, RefusalAs}
+use Rattle.m4_model.specs.Headed.{Fault, PastLimit}
+use Rattle.m4_model.specs.FormTexts.{ReadsAs, RefusalAs}
 use Rattle.m4_model.specs.Words.{Job, job, form_of_files, form_of_answer}
-use Rattle.m4_model.specs.Outcome.{Stock, bytes_of, Fits, InBounds, Answer, status_of}
-use Rattle.m4_cmd.specs.OverBits.{Accepted, FirstRefused, FirstMissing, HasAnswer, can_hold_answer, text_of_answer}
+use Rattle.m4_model.specs.Outcome.{Stock, bytes_of, Accepted, FirstRefused, FirstMissing, AreServed, Fits, InBounds, Answer, IsAnswer, HasAnswer, IsFaultAt, status_of, can_hold_answer, text_of_answer}
 use Rattle.m4_model.specs.declared.choices.Form.{Form}
 use Rattle.m4_model.specs.declared.command.Command.{Command}
 use Rattle.m4_model.specs.declared.status.Status.{Status}
@@ -22,8 +21,16 @@ use Rattle.m4_cmd.specs.declared.answer.AnswerFault.TheVariants as answer_faults
 use Rattle.m4_cmd.specs.declared.output.OutputFault.{OutputFault}
 use Rattle.m4_cmd.specs.declared.output.OutputFault.TheVariants as output_faults
 
--- What is known of a matrix that was read: it is over GF(2), and has no more columns than the limits let it have.
+-- What is known of a matrix that was read: it has no more columns than the limits let it have.
 pub record IsOperand (M : Matrix) : Type 0 where
+  pub few_cols : M.cols ≤ 65536
+
+-- The matrices are over GF(2).
+abbrev pub AreOverBits : List Matrix → Type 0
+AreOverBits matrices = All (λ A. A.field ≡ gf2) matrices
+
+-- What is known of an operand of a command that is computed.
+pub record IsBinary (M : Matrix) : Type 0 where
   pub over_gf2 : M.field ≡ gf2
   pub few_cols : M.cols ≤ 65536
 
@@ -35,10 +42,14 @@ IsReadAs told form name M = (files : Stock) → told ≡ Some files → (bytes :
 abbrev pub IsRefusedWith : Option Stock → Form → List ℕ → Fault → Type 0
 IsRefusedWith told form name fault = (files : Stock) → told ≡ Some files → (bytes : List ℕ) × (bytes_of files name ≡ Some bytes) × RefusalAs form bytes fault
 
+-- Where the files are told, the one of this name is there, and is refused in this form at this place.
+abbrev pub IsRefusedAt : Option Stock → Form → List ℕ → ℕ → Type 0
+IsRefusedAt told form name place = (fault : Fault) × IsFaultAt place fault × IsRefusedWith told form name fault
+
 -- Why the operand of this number isn't accepted. The counts of faults are those before and after it.
 abbrev pub OperandFails : Option Stock → Form → List ℕ → ℕ → ℕ → ℕ → OperandFault → Type 0
 OperandFails told form name number before now operand_faults.Read = Rose before now ⊎ Lacks told name
-OperandFails told form name number before now (operand_faults.Bad operand place) = (now ≡ before) × (operand ≡ number) × IsRefusedWith told form name (BadAt place)
+OperandFails told form name number before now (operand_faults.Bad operand place) = (now ≡ before) × (operand ≡ number) × IsRefusedAt told form name place
 OperandFails told form name number before now operand_faults.Limit = (now ≡ before) × IsRefusedWith told form name PastLimit
 OperandFails told form name number before now operand_faults.NoMemory = now ≡ before
 
@@ -50,6 +61,10 @@ AreReadAs told form names Ms = (files : Stock) → told ≡ Some files → Accep
 abbrev pub IsFirstRefused : Option Stock → Form → List (List ℕ) → ℕ → Fault → Type 0
 IsFirstRefused told form names operand fault = (files : Stock) → told ≡ Some files → FirstRefused files form names operand fault
 
+-- Where the files are told, this operand is the first that isn't accepted, and is refused at this place.
+abbrev pub IsFirstRefusedAt : Option Stock → Form → List (List ℕ) → ℕ → ℕ → Type 0
+IsFirstRefusedAt told form names operand place = (fault : Fault) × IsFaultAt place fault × IsFirstRefused told form names operand fault
+
 -- The files are told, and the first operand that isn't accepted isn't among them.
 abbrev pub IsFirstMissing : Option Stock → Form → List (List ℕ) → Type 0
 IsFirstMissing told form names = (files : Stock) × (told ≡ Some files) × FirstMissing files form names
@@ -57,7 +72,7 @@ IsFirstMissing told form names = (files : Stock) × (told ≡ Some files) × Fir
 -- Why not all of the operands are accepted.
 abbrev pub OperandsFail : Option Stock → Form → List (List ℕ) → ℕ → ℕ → OperandFault → Type 0
 OperandsFail told form names before now operand_faults.Read = Rose before now ⊎ IsFirstMissing told form names
-OperandsFail told form names before now (operand_faults.Bad operand place) = (now ≡ before) × IsFirstRefused told form names operand (BadAt place)
+OperandsFail told form names before now (operand_faults.Bad operand place) = (now ≡ before) × IsFirstRefusedAt told form names operand place
 OperandsFail told form names before now operand_faults.Limit = (now ≡ before) × ((operand : ℕ) × IsFirstRefused told form names operand PastLimit)
 OperandsFail told form names before now operand_faults.NoMemory = now ≡ before
 
@@ -68,14 +83,32 @@ operand_status (operand_faults.Bad operand place) = Text operand place
 operand_status operand_faults.Limit = Limit
 operand_status operand_faults.NoMemory = Memory
 
--- The operands fit, and the shape of the command's answer passes a limit.
+-- The operands' shapes fit, and the shape of the command's answer passes a limit.
+pub record ExceedsBounds (command : Command) (Ms : List Matrix) : Type 0 where
+  pub fits : Fits command Ms
+  pub large : InBounds command Ms → ⊥
+
+-- The operands' shapes fit, the answer's is within the limits, and this is the answer.
+pub record IsComputed (command : Command) (Ms : List Matrix) (answer : Answer) : Type 0 where
+  pub fits : Fits command Ms
+  pub bounds : InBounds command Ms
+  pub is : IsAnswer command Ms answer
+
+-- Why the answer isn't computed.
+abbrev pub ComputingFails : Command → List Matrix → AnswerFault → Type 0
+ComputingFails command Ms answer_faults.Shape = Fits command Ms → ⊥
+ComputingFails command Ms answer_faults.Limit = ExceedsBounds command Ms
+ComputingFails command Ms answer_faults.NoMemory = Unit {0}
+
+-- The operands' fields and shapes fit, and the shape of the command's answer passes a limit.
 pub record PassesBounds (command : Command) (Ms : List Matrix) : Type 0 where
+  pub served : AreServed command Ms
   pub fits : Fits command Ms
   pub large : InBounds command Ms → ⊥
 
 -- Why the command has no answer to these operands.
 abbrev pub AnswerFails : Command → List Matrix → AnswerFault → Type 0
-AnswerFails command Ms answer_faults.Shape = Fits command Ms → ⊥
+AnswerFails command Ms answer_faults.Shape = AreServed command Ms → Fits command Ms → ⊥
 AnswerFails command Ms answer_faults.Limit = PassesBounds command Ms
 AnswerFails command Ms answer_faults.NoMemory = Unit {0}
 
@@ -148,11 +181,11 @@ pub record IsUnheldJob (told : Option Stock) (asked : Job) : Type 0 where
   pub is : IsJobAnswer told asked answer
   pub unheld : can_hold_answer (form_of_answer asked.choices) answer → ⊥
 
--- The job's operands are accepted, and don't fit.
+-- The job's operands are accepted, and their fields or shapes don't fit.
 pub record IsMisfitJob (told : Option Stock) (asked : Job) : Type 0 where
   pub matrices : List Matrix
   pub read : AreReadAs told (form_of_files asked.choices) asked.files matrices
-  pub misfit : Fits asked.command matrices → ⊥
+  pub misfit : AreServed asked.command matrices → Fits asked.command matrices → ⊥
 
 -- The job's operands are accepted and fit, and the answer's shape passes a limit.
 pub record IsTooLargeJob (told : Option Stock) (asked : Job) : Type 0 where
@@ -169,7 +202,7 @@ abbrev pub JobGives : Option Stock → Job → Change → Status → Type 0
 JobGives told asked change Done = IsDone told asked change Done
 JobGives told asked change No = IsDone told asked change No
 JobGives told asked change (Words word) = ⊥
-JobGives told asked change (Text operand place) = NoReadFailed change × NothingWritten change.out × IsFirstRefused told (form_of_files asked.choices) asked.files operand (BadAt place)
+JobGives told asked change (Text operand place) = NoReadFailed change × NothingWritten change.out × IsFirstRefusedAt told (form_of_files asked.choices) asked.files operand place
 JobGives told asked change Shape = NoReadFailed change × NothingWritten change.out × (IsMisfitJob told asked ⊎ IsUnheldJob told asked)
 JobGives told asked change Limit = NoReadFailed change × NothingWritten change.out × PassesLimit told asked
 JobGives told asked change Read = NothingWritten change.out × (Rose change.read_before change.read_now ⊎ IsFirstMissing told (form_of_files asked.choices) asked.files)

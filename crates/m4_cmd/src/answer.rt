@@ -1,14 +1,13 @@
 //! What a command answers, or why it has no answer.
 
 ghost use Rattle.std.specs.Prelude.{◌≡◌, IfOk, IfErr, All};
-ghost use Rattle.m4_model.specs.Outcome.{status_of};
-ghost use Rattle.m4_cmd.specs.OverBits.{HasAnswer};
-ghost use Rattle.m4_cmd.specs.Answer.{answer_told, IsOverBits};
+ghost use Rattle.m4_model.specs.Outcome.{HasAnswer, status_of};
+ghost use Rattle.m4_cmd.specs.Answer.{answer_told};
 ghost use Rattle.m4_cmd.specs.Steps.{AnswerFails, IsOperand, answer_status};
 
 use crate::bounds::in_known_bounds;
-use crate::compute::compute;
-use crate::fits::fits;
+use crate::compute::{compute, converted};
+use crate::fits::{are_over_bits, fits, is_served};
 use m4_dense::{How, Mzed, PleFactors, PluqFactors};
 use m4_model::{Command, NoMemory, Status};
 use std::alloc::Global;
@@ -76,8 +75,8 @@ impl From<NoMemory> for AnswerFault {
     }
 }
 
-/// The answer of a command to these operands: where their shapes fit, and the answer's is within the limits. The first
-/// operand is taken.
+/// The answer of a command to these operands: where the command is there for their fields, their shapes fit, and the answer's is
+/// within the limits. The first operand is taken.
 pub(crate) fn answer_of(
     alloc: Global,
     command: Command,
@@ -86,14 +85,17 @@ pub(crate) fn answer_of(
 ) -> Result<Answer, AnswerFault>
     requires operands { All IsOperand operands.old }
     ensures good { IfOk result (λ answer. HasAnswer command operands.old (answer_told answer)) }
-    ensures over_gf2 { IfOk result IsOverBits }
     ensures fails { IfErr result (AnswerFails command operands.old) }
 {
-    if !fits(command, operands) {
+    if !is_served(command, operands) || !fits(command, operands) {
         return Err(AnswerFault::Shape);
     }
     if !in_known_bounds(command, operands) {
         return Err(AnswerFault::Limit);
     }
-    compute(alloc, command, how, operands)
+    if are_over_bits(operands) {
+        compute(alloc, command, how, operands)
+    } else {
+        Ok(converted(alloc, operands))
+    }
 }

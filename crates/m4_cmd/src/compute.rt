@@ -1,10 +1,10 @@
 //! The answer of a command to operands that fit it.
 
 ghost use Rattle.std.specs.Prelude.{◌≡◌, IfOk, IfErr, All, [], ◌∷◌};
-ghost use Rattle.m4_model.specs.Outcome.{Fits, InKnownBounds};
-ghost use Rattle.m4_cmd.specs.OverBits.{HasAnswer};
-ghost use Rattle.m4_cmd.specs.Answer.{answer_told, IsOverBits};
-ghost use Rattle.m4_cmd.specs.Steps.{AnswerFails, IsOperand};
+ghost use Rattle.m4_model.specs.Outcome.{Fits, InKnownBounds, HasAnswer};
+ghost use Rattle.m4_model.specs.declared.command.Command.TheVariants.{Convert};
+ghost use Rattle.m4_cmd.specs.Answer.{answer_told};
+ghost use Rattle.m4_cmd.specs.Steps.{ComputingFails, IsBinary, IsComputed};
 
 use crate::answer::{Answer, AnswerFault};
 use crate::systems::{basis_of, inverse_of, solution_of};
@@ -16,7 +16,7 @@ use m4_model::Command;
 use std::alloc::Global;
 use std::mem;
 
-/// The answer of a command to operands whose shapes fit it, and for which the answer's shape, where these tell it, is within
+/// The answer of a command to operands over GF(2) whose shapes fit it, and for which the answer's shape, where these tell it, is within
 /// the limits. The first operand is taken.
 pub(crate) fn compute(
     alloc: Global,
@@ -26,10 +26,9 @@ pub(crate) fn compute(
 ) -> Result<Answer, AnswerFault>
     requires fits { Fits command operands.old }
     requires bounds { InKnownBounds command operands.old }
-    requires operands { All IsOperand operands.old }
-    ensures good { IfOk result (λ answer. HasAnswer command operands.old (answer_told answer)) }
-    ensures over_gf2 { IfOk result IsOverBits }
-    ensures fails { IfErr result (AnswerFails command operands.old) }
+    requires operands { All IsBinary operands.old }
+    ensures good { IfOk result (λ answer. IsComputed command operands.old (answer_told answer)) }
+    ensures fails { IfErr result (ComputingFails command operands.old) }
 {
     match operands.split_first_mut() {
         Some((first, others)) => of_some(alloc, command, how, first, others),
@@ -47,11 +46,10 @@ fn of_some(
 ) -> Result<Answer, AnswerFault>
     requires fits { Fits command (first.old ∷ others.now) }
     requires bounds { InKnownBounds command (first.old ∷ others.now) }
-    requires first { IsOperand first.old }
-    requires others { All IsOperand others.now }
-    ensures good { IfOk result (λ answer. HasAnswer command (first.old ∷ others.now) (answer_told answer)) }
-    ensures over_gf2 { IfOk result IsOverBits }
-    ensures fails { IfErr result (AnswerFails command (first.old ∷ others.now)) }
+    requires first { IsBinary first.old }
+    requires others { All IsBinary others.now }
+    ensures good { IfOk result (λ answer. IsComputed command (first.old ∷ others.now) (answer_told answer)) }
+    ensures fails { IfErr result (ComputingFails command (first.old ∷ others.now)) }
 {
     match (command, others) {
         (command, []) => of_one(alloc, command, how, first),
@@ -60,6 +58,28 @@ fn of_some(
             add_product(alloc, how, first, (row, col), a, b)?;
             Ok(Answer::Matrix(taken(alloc, first)))
         }
+        _ => unreachable!(),
+    }
+}
+
+/// The matrix itself, over any field, which is taken.
+pub(crate) fn converted(alloc: Global, operands: &mut [Mzed]) -> Answer
+    requires { Fits Convert operands.old }
+    ensures { HasAnswer Convert operands.old (answer_told result) }
+{
+    match operands.split_first_mut() {
+        Some((first, others)) => converted_alone(alloc, first, others),
+        None => unreachable!(),
+    }
+}
+
+/// The only operand, which is taken.
+fn converted_alone(alloc: Global, first: &mut Mzed, others: &[Mzed]) -> Answer
+    requires { Fits Convert (first.old ∷ others.now) }
+    ensures { HasAnswer Convert (first.old ∷ others.now) (answer_told result) }
+{
+    match others {
+        [] => Answer::Matrix(taken(alloc, first)),
         _ => unreachable!(),
     }
 }
@@ -75,10 +95,9 @@ fn taken(alloc: Global, matrix: &mut Mzed) -> Mzed
 fn of_one(alloc: Global, command: Command, how: How, a: &mut Mzed) -> Result<Answer, AnswerFault>
     requires fits { Fits command (a.old ∷ []) }
     requires bounds { InKnownBounds command (a.old ∷ []) }
-    requires operand { IsOperand a.old }
-    ensures good { IfOk result (λ answer. HasAnswer command (a.old ∷ []) (answer_told answer)) }
-    ensures over_gf2 { IfOk result IsOverBits }
-    ensures fails { IfErr result (AnswerFails command (a.old ∷ [])) }
+    requires operand { IsBinary a.old }
+    ensures good { IfOk result (λ answer. IsComputed command (a.old ∷ []) (answer_told answer)) }
+    ensures fails { IfErr result (ComputingFails command (a.old ∷ [])) }
 {
     match command {
         Command::Transpose => Ok(Answer::Matrix(transpose(alloc, a)?)),
@@ -117,11 +136,10 @@ fn of_two(
 ) -> Result<Answer, AnswerFault>
     requires fits { Fits command (a.old ∷ b.now ∷ []) }
     requires bounds { InKnownBounds command (a.old ∷ b.now ∷ []) }
-    requires first { IsOperand a.old }
-    requires second { IsOperand b.now }
-    ensures good { IfOk result (λ answer. HasAnswer command (a.old ∷ b.now ∷ []) (answer_told answer)) }
-    ensures over_gf2 { IfOk result IsOverBits }
-    ensures fails { IfErr result (AnswerFails command (a.old ∷ b.now ∷ [])) }
+    requires first { IsBinary a.old }
+    requires second { IsBinary b.now }
+    ensures good { IfOk result (λ answer. IsComputed command (a.old ∷ b.now ∷ []) (answer_told answer)) }
+    ensures fails { IfErr result (ComputingFails command (a.old ∷ b.now ∷ [])) }
 {
     match command {
         Command::Mul => Ok(Answer::Matrix(product(alloc, how, a, b)?)),

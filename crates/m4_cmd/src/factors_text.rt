@@ -1,22 +1,18 @@
 //! The text of factors: the rank, the orders of rows and columns, and the two factors. It is written without memory.
 
-ghost use Rattle.std.specs.Prelude.{◌≡◌, ◌≤◌, ◌++◌, length};
-ghost use Rattle.m4_model.specs.Field.{gf2};
-ghost use Rattle.m4_model.specs.Outcome.{numbers_line, rank_line};
-ghost use Rattle.m4_cmd.specs.OverBits.{factors_text};
-ghost use Rattle.m4_model.specs.Text.{text};
+ghost use Rattle.std.specs.Prelude.{◌≤◌, ◌++◌, length};
+ghost use Rattle.m4_model.specs.Outcome.{factors_text, numbers_line, rank_line};
+ghost use Rattle.m4_model.specs.Headed.{headed_text};
 ghost use Rattle.m4_io.specs.Outside.{WritesAll};
 ghost use Rattle.m4_cmd.specs.Factors.{ple_text, pluq_text, rows_line};
 
 use crate::line::rank_line;
 use m4_dense::{Mzed, PleFactors, PluqFactors};
+use m4_etext::{Form, WriteFault, write_numbers, write_text};
 use m4_io::{Sink, write_whole};
-use m4_text::{WriteFault, write_numbers, write_text};
 
 /// Writes the text of a PLE.
 pub(crate) fn write_ple<O: Sink>(ple: PleFactors, out: &mut O) -> Result<(), WriteFault>
-    requires l_over_gf2 { ple.l.field ≡ gf2 }
-    requires e_over_gf2 { ple.e.field ≡ gf2 }
     ensures { WritesAll (O.taken out.old) (O.taken out.new) (O.faults out.old) (O.faults out.new) result
         (ple_text ple) }
 {
@@ -33,8 +29,6 @@ pub(crate) fn write_ple<O: Sink>(ple: PleFactors, out: &mut O) -> Result<(), Wri
 
 /// Writes the text of a PLUQ.
 pub(crate) fn write_pluq<O: Sink>(pluq: PluqFactors, out: &mut O) -> Result<(), WriteFault>
-    requires l_over_gf2 { pluq.l.field ≡ gf2 }
-    requires u_over_gf2 { pluq.u.field ≡ gf2 }
     ensures { WritesAll (O.taken out.old) (O.taken out.new) (O.faults out.old) (O.faults out.new) result
         (pluq_text pluq) }
 {
@@ -82,11 +76,9 @@ fn write_orders<O: Sink>(
 
 /// Writes the two factors as headed texts.
 fn write_both<O: Sink>(first: Mzed, second: Mzed, out: &mut O) -> Result<(), WriteFault>
-    requires first { first.field ≡ gf2 }
-    requires second { second.field ≡ gf2 }
     ensures { WritesAll (O.taken out.old) (O.taken out.new) (O.faults out.old) (O.faults out.new) result
-        (text first ++ text second) }
+        (headed_text first ++ headed_text second) }
 {
-    write_text(&first.into_bits(), out)?;
-    write_text(&second.into_bits(), out)
+    write_text(&first, Form::Headed, out)?;
+    write_text(&second, Form::Headed, out)
 }

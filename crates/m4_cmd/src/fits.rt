@@ -1,10 +1,37 @@
-//! Whether the operands' shapes fit a command.
+//! Whether the operands' fields and shapes fit a command.
 
 ghost use Rattle.std.specs.Prelude.{◌↔◌, IsTrue};
-ghost use Rattle.m4_model.specs.Outcome.{Fits, HasRectangle, HasRoom};
+ghost use Rattle.m4_model.specs.Outcome.{AreServed, Fits, HasRectangle, HasRoom};
+ghost use Rattle.m4_cmd.specs.Steps.{AreOverBits};
 
 use m4_dense::Mzed;
 use m4_model::Command;
+
+/// Whether the command is there for the operands' fields.
+pub(crate) fn is_served(command: Command, operands: &[Mzed]) -> bool
+    ensures { IsTrue result ↔ AreServed command operands.now }
+{
+    match command {
+        Command::Convert => true,
+        Command::Mul | Command::Addmul { .. } | Command::Add => are_over_bits(operands),
+        Command::Transpose | Command::Stack | Command::Augment => are_over_bits(operands),
+        Command::Sub { .. } | Command::Rank | Command::Echelon => are_over_bits(operands),
+        Command::Inverse | Command::Solve | Command::Kernel => are_over_bits(operands),
+        Command::Ple | Command::Pluq => are_over_bits(operands),
+    }
+}
+
+/// Whether the operands are over GF(2).
+pub(crate) fn are_over_bits(operands: &[Mzed]) -> bool
+    ensures { IsTrue result ↔ AreOverBits operands.now }
+{
+    for operand in operands {
+        if !operand.is_over_gf2() {
+            return false;
+        }
+    }
+    true
+}
 
 /// Whether the operands are as many as the command takes, and their shapes fit it.
 pub(crate) fn fits(command: Command, operands: &[Mzed]) -> bool

@@ -7,6 +7,7 @@ mod compute;
 mod exit;
 mod factors_text;
 mod fault_line;
+mod files;
 mod fits;
 mod gate;
 mod how;

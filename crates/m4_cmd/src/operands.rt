@@ -3,10 +3,10 @@
 ghost use Rattle.std.specs.Prelude.{◌≡◌, IfOk, IfErr, OnOk, All, map};
 ghost use Rattle.m4_cmd.specs.Steps.{AreReadAs, IsOperand, IsReadAs, OperandFails, OperandsFail, operand_status};
 
+use crate::files::read_started;
 use m4_dense::Mzed;
-use m4_io::{ReadFault, Shelf, read_whole};
+use m4_io::{Failed, Shelf};
 use m4_model::{Form, Status};
-use m4_text::{MOST_BYTES, TextFault, read_as};
 use std::alloc::{AllocFailed, Global};
 
 /// Why the operands can't be had.
@@ -14,7 +14,7 @@ use std::alloc::{AllocFailed, Global};
 pub(crate) enum OperandFault {
     /// A file could not be read.
     Read,
-    /// The text of this operand, counted from 1, is refused at this byte, counted from 0.
+    /// The text of this operand, counted from 1, is refused at this byte, counted from 0: it goes wrong there, or tells no field.
     Bad { operand: u64, at: u64 },
     /// A text passes a limit.
     Limit,
@@ -68,7 +68,7 @@ pub(crate) fn read_operands<S: Shelf>(
     Ok(matrices)
 }
 
-/// Reads a file to its end, and its bytes in this form as a matrix. The operand's number is counted from 1.
+/// Reads a file to its end, or to its first fault, in this form as a matrix. The operand's number is counted from 1.
 fn read_operand<S: Shelf>(
     alloc: Global,
     shelf: &mut S,
@@ -82,18 +82,11 @@ fn read_operand<S: Shelf>(
     ensures kept { OnOk result (S.faults shelf.new ≡ S.faults shelf.old) }
     ensures fails { IfErr result (OperandFails (S.stock shelf.old) form name.now number (S.faults shelf.old) (S.faults shelf.new)) }
 {
-    let bytes = match read_whole(alloc, shelf, name, MOST_BYTES as u64) {
-        Ok(bytes) => bytes,
-        Err(ReadFault::Failed) => return Err(OperandFault::Read),
-        Err(ReadFault::NoMemory) => return Err(OperandFault::NoMemory),
-    };
-    match read_as(alloc, form, &bytes) {
-        Ok(matrix) => Ok(Mzed::of_bits(matrix)),
-        Err(TextFault::Bad { at }) => Err(OperandFault::Bad {
-            operand: number,
-            at,
-        }),
-        Err(TextFault::Limit) => Err(OperandFault::Limit),
-        Err(TextFault::NoMemory) => Err(OperandFault::NoMemory),
+    match shelf.start(name) {
+        Ok(()) => match read_started(alloc, shelf, form) {
+            Ok(matrix) => Ok(matrix),
+            Err(fault) => Err(fault.of_operand(number)),
+        },
+        Err(Failed) => Err(OperandFault::Read),
     }
 }

@@ -1,18 +1,17 @@
 //! The text of an answer, as it is written.
 
 ghost use Rattle.std.specs.Prelude.{◌≡◌, IfErr, OnOk, codes};
-ghost use Rattle.m4_model.specs.Field.{gf2};
 ghost use Rattle.m4_model.specs.Outcome.{OneMatrix};
-ghost use Rattle.m4_cmd.specs.Answer.{answer_told, IsOverBits};
+ghost use Rattle.m4_cmd.specs.Answer.{answer_told};
 ghost use Rattle.m4_cmd.specs.Steps.{OutputFails, Wrote, output_status};
 
 use crate::answer::Answer;
 use crate::factors_text::{write_ple, write_pluq};
 use crate::line::{plain_line, rank_line};
 use m4_dense::Mzed;
+use m4_etext::{WriteFault, can_write, write_text};
 use m4_io::{Failed, Sink, write_whole};
 use m4_model::{Form, Status};
-use m4_text::{WriteFault, can_write, write_as};
 
 /// Why the text of an answer isn't written, or not whole.
 #[derive(Clone, Copy, Debug, PartialEq, Eq)]
@@ -61,7 +60,6 @@ pub(crate) fn write_answer<O: Sink>(
     form: Form,
     out: &mut O,
 ) -> Result<(), OutputFault>
-    requires { IsOverBits answer }
     ensures wrote { OnOk result (Wrote form (answer_told answer) (record {
       before = O.faults out.old;
       now = O.faults out.new;
@@ -88,7 +86,6 @@ pub(crate) fn write_answer<O: Sink>(
 
 /// Writes the text of one matrix in this form, where the form can hold it.
 fn write_matrix<O: Sink>(matrix: Mzed, form: Form, out: &mut O) -> Result<(), OutputFault>
-    requires { matrix.field ≡ gf2 }
     ensures wrote { OnOk result (Wrote form (OneMatrix matrix) (record {
       before = O.faults out.old;
       now = O.faults out.new;
@@ -102,10 +99,9 @@ fn write_matrix<O: Sink>(matrix: Mzed, form: Form, out: &mut O) -> Result<(), Ou
       taken_now = O.taken out.new;
     })) }
 {
-    let bits = matrix.into_bits();
-    if !can_write(&bits, form) {
+    if !can_write(&matrix, form) {
         return Err(OutputFault::Shape);
     }
-    write_as(&bits, form, out)?;
+    write_text(&matrix, form, out)?;
     Ok(())
 }

@@ -24,8 +24,8 @@ use std::alloc::Global;
 ///
 /// The words are those after the program's name. Each file operand in order is read to its end, or to its first
 /// fault, before the next. The first refusal is the answer, in this order: the words; each operand's reading, its
-/// text and its limits; the shapes; the limits of the answer; an answer that its form can't hold; the writing. Where no
-/// answer is begun, nothing is written to `out`.
+/// text, its field and its limits; a command that isn't there for the fields; the shapes; the limits of the answer; an answer that
+/// its form can't hold; the writing. Where no answer is begun, nothing is written to `out`.
 pub fn run<S: Shelf, O: Sink, R: Sink, G: Gate + Sync>(
     alloc: Global,
     words: &[String],

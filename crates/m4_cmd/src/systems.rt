@@ -3,11 +3,11 @@
 
 ghost use Rattle.std.specs.Prelude.{◌≡◌, IfOk, IfErr, [], ◌∷◌};
 ghost use Rattle.m4_model.specs.Field.{gf2};
-ghost use Rattle.m4_cmd.specs.OverBits.{HasAnswer, IsAnswer};
+ghost use Rattle.m4_model.specs.Outcome.{IsAnswer};
 ghost use Rattle.m4_model.specs.Text.{IsWithinLimits};
 ghost use Rattle.m4_model.specs.declared.command.Command.TheVariants.{Inverse, Solve, Kernel};
-ghost use Rattle.m4_cmd.specs.Answer.{answer_told, IsOverBits};
-ghost use Rattle.m4_cmd.specs.Steps.{AnswerFails, IsOperand};
+ghost use Rattle.m4_cmd.specs.Answer.{answer_told};
+ghost use Rattle.m4_cmd.specs.Steps.{ComputingFails, IsBinary, IsComputed};
 
 use crate::answer::{Answer, AnswerFault};
 use crate::bounds::is_within_limits;
@@ -16,10 +16,9 @@ use std::alloc::Global;
 
 /// The inverse of a square matrix, or that there is none.
 pub(crate) fn inverse_of(alloc: Global, how: How, a: &Mzed) -> Result<Answer, NoMemory>
-    requires operand { IsOperand a.now }
+    requires operand { IsBinary a.now }
     requires square { a.now.cols ≡ a.now.rows }
     ensures is { IfOk result (λ answer. IsAnswer Inverse (a.now ∷ []) (answer_told answer)) }
-    ensures over_gf2 { IfOk result IsOverBits }
 {
     match inverse(alloc, how, a)? {
         Some(inverse) => Ok(Answer::Matrix(inverse)),
@@ -29,11 +28,10 @@ pub(crate) fn inverse_of(alloc: Global, how: How, a: &Mzed) -> Result<Answer, No
 
 /// The solution X of A X = B, or that there is none.
 pub(crate) fn solution_of(alloc: Global, how: How, a: &Mzed, b: &Mzed) -> Result<Answer, NoMemory>
-    requires first { IsOperand a.now }
-    requires second { IsOperand b.now }
+    requires first { IsBinary a.now }
+    requires second { IsBinary b.now }
     requires rows { a.now.rows ≡ b.now.rows }
     ensures is { IfOk result (λ answer. IsAnswer Solve (a.now ∷ b.now ∷ []) (answer_told answer)) }
-    ensures over_gf2 { IfOk result IsOverBits }
 {
     match solution(alloc, how, a, b)? {
         Some(solution) => Ok(Answer::Matrix(solution)),
@@ -45,9 +43,8 @@ pub(crate) fn solution_of(alloc: Global, how: How, a: &Mzed, b: &Mzed) -> Result
 /// leaves.
 pub(crate) fn basis_of(alloc: Global, how: How, a: &Mzed) -> Result<Answer, AnswerFault>
     requires { a.now.field ≡ gf2 }
-    ensures good { IfOk result (λ answer. HasAnswer Kernel (a.now ∷ []) (answer_told answer)) }
-    ensures over_gf2 { IfOk result IsOverBits }
-    ensures fails { IfErr result (AnswerFails Kernel (a.now ∷ [])) }
+    ensures good { IfOk result (λ answer. IsComputed Kernel (a.now ∷ []) (answer_told answer)) }
+    ensures fails { IfErr result (ComputingFails Kernel (a.now ∷ [])) }
 {
     let cols = a.cols();
     let form = pivot_form(alloc, how, a)?;

@@ -269,7 +269,7 @@ fn words(rt: HostRuntime) -> Result<(), Fail> {
 }
 
 /// Options of `convert`, the text of its operand, the status and the text of its answer.
-const CONVERSIONS: [(&[&str], &str, Status, &str); 24] = [
+const CONVERSIONS: [(&[&str], &str, Status, &str); 39] = [
     (&[], "gf2 1 2\n01\n", Status::Done, "gf2 1 2\n01\n"),
     (
         &["--out=bare"],
@@ -369,7 +369,101 @@ const CONVERSIONS: [(&[&str], &str, Status, &str); 24] = [
         Status::Text { operand: 1, at: 16 },
         "",
     ),
+    (
+        &["--out=hex"],
+        "gf2 1 8\n11110101\n",
+        Status::Done,
+        "gf2x 1 8\nfa\n",
+    ),
+    (
+        &["--out=hex"],
+        "gf2 1 5\n11111\n",
+        Status::Done,
+        "gf2x 1 5\nf1\n",
+    ),
+    (
+        &["--out=hex"],
+        "gf2 2 0\n\n\n",
+        Status::Done,
+        "gf2x 2 0\n\n\n",
+    ),
+    (
+        &["--out=hex"],
+        "gf2e 2 7 1 1\n3\n",
+        Status::Done,
+        "gf2e 2 7 1 1\n3\n",
+    ),
+    (&[], "gf2x 1 5\nf1\n", Status::Done, "gf2 1 5\n11111\n"),
+    (
+        &[],
+        "gf2x 1 5\nf2\n",
+        Status::Text { operand: 1, at: 10 },
+        "",
+    ),
+    (&[], "gf2x 1 4\nF\n", Status::Text { operand: 1, at: 9 }, ""),
+    (&[], "gf2x 65537 1\n", Status::Limit, ""),
+    (
+        &[],
+        "gf2e 9 203 1 2\n1af11d\n",
+        Status::Done,
+        "gf2e 9 203 1 2\n1af11d\n",
+    ),
+    (&["--out=bare"], "gf2e 2 7 1 1\n3\n", Status::Shape, ""),
+    (&["--out=jcf"], "gf2e 2 7 1 1\n3\n", Status::Shape, ""),
+    (
+        &[],
+        "gf2e 1 2 65537 1\n",
+        Status::Text { operand: 1, at: 5 },
+        "",
+    ),
+    (
+        &[],
+        "gf2e 2 5 65537 1\n",
+        Status::Text { operand: 1, at: 7 },
+        "",
+    ),
+    (
+        &[],
+        "gf2e 3 b 1 1\n8\n",
+        Status::Text { operand: 1, at: 13 },
+        "",
+    ),
+    (&[], "gf2e 16 1002b 65536 257\n", Status::Limit, ""),
 ];
+
+/// Commands that extension fields don't have yet: `Shape`, after all files were read.
+const UNSERVED: [Case<'static>; 4] = [
+    (&["rank", "A"], "gf2e 2 7 1 1\n3\n", "", Status::Shape, ""),
+    (
+        &["add", "A", "B"],
+        "gf2e 2 7 1 1\n3\n",
+        "gf2e 2 7 1 1\n1\n",
+        Status::Shape,
+        "",
+    ),
+    (
+        &["mul", "A", "B"],
+        "gf2 1 1\n1\n",
+        "gf2e 2 7 1 1\n1\n",
+        Status::Shape,
+        "",
+    ),
+    (
+        &["mul", "A", "B"],
+        "gf2e 2 7 1 1\n1\n",
+        "gf2 1 1\n2\n",
+        Status::Text { operand: 2, at: 8 },
+        "",
+    ),
+];
+
+#[test]
+fn commands_over_extension_fields(rt: HostRuntime) -> Result<(), Fail> {
+    for case in &UNSERVED {
+        assert_case(&rt, rt.alloc(), *case)?;
+    }
+    Ok(())
+}
 
 #[test]
 fn conversions(rt: HostRuntime) -> Result<(), Fail> {
