@@ -20,8 +20,8 @@ mod transpose;
 pub use digits::{put_digits, word_of_digits};
 pub use products::add_products;
 pub use rows::{
-    clear, copy_into, set_sum, swap_into, xor_from_column, xor_from2, xor_from3, xor_from4, xor_from5,
-    xor_from6, xor_from7, xor_from8, xor_into,
+    clear, copy_into, set_sum, swap_into, xor_from_column, xor_from2, xor_from3, xor_from4,
+    xor_from5, xor_from6, xor_from7, xor_from8, xor_into,
 };
 pub use shift::copy_bits;
 pub use take::take_bits;
@@ -111,8 +111,8 @@ fn add_bit(row: &mut [u64], j: u32, change: u64)
 mod tests {
     use super::{
         clear, copy_into, get_bit, mask, put_bit, set_sum, swap_bits, swap_into, words_for,
-        xor_from_column, xor_from2, xor_from3, xor_from4, xor_from5, xor_from6, xor_from7, xor_from8,
-        xor_into,
+        xor_from_column, xor_from2, xor_from3, xor_from4, xor_from5, xor_from6, xor_from7,
+        xor_from8, xor_into,
     };
     use std::process::Abort;
 

@@ -19,7 +19,6 @@ mod how;
 mod listed;
 mod pivots;
 mod products;
-
 mod shapes;
 mod systems;
 

@@ -6,10 +6,10 @@ ghost use Rattle.m4_model.specs.Forms.{IsReduced, IsKernel};
 ghost use Rattle.m4_model.specs.Rank.{IsRank};
 ghost use Rattle.m4_dense.specs.Answers.{TellsInverse, TellsSolution};
 
-use m4_mzd::MOST_SIDE;
 use crate::engine::context;
 use crate::how::How;
 use m4_model::NoMemory;
+use m4_mzd::MOST_SIDE;
 use m4_mzed::Mzed;
 use m4_solve::{Inverse, Solution, echelon, invert, solve};
 use std::alloc::Global;

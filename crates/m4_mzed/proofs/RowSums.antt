@@ -49,12 +49,12 @@ module _ (F : Field) (n : ℕ) (xs ys : List ℕ) (hx : HoldsRow F n xs) (hy : H
   row_sum_is =
       unpacked_is (width F) n (row_sum xs ys) many sum_bits (row_sum (unpacked (width F) n xs) (unpacked (width F) n ys)) sums_long
       (λ j below.
-        let P : ℕ → Type 0 = λ x. x < 2 ^ width F in
-        subst P (sym (sums_at j)) (xor_lt (width F) _ _ (element_small (width F) n xs hx.packed.long hx.bits j below) (element_small (width F) n ys hy.packed.long hy.bits j below)))
+      let P : ℕ → Type 0 = λ x. x < 2 ^ width F in
+      subst P (sym (sums_at j)) (xor_lt (width F) _ _ (element_small (width F) n xs hx.packed.long hx.bits j below) (element_small (width F) n ys hy.packed.long hy.bits j below)))
       (λ j v below v_below.
-        get_or-row_sum xs ys (j * width F + v) same_long
-        ∙ ap₂ bit_xor (sym (element_bit (width F) n xs hx.packed.long hx.bits j v below v_below)) (sym (element_bit (width F) n ys hy.packed.long hy.bits j v below v_below))
-        ∙ sym (bit_at-xor _ _ v) ∙ ap (λ x. bit_at x v) (sym (sums_at j)))
+      get_or-row_sum xs ys (j * width F + v) same_long
+      ∙ ap₂ bit_xor (sym (element_bit (width F) n xs hx.packed.long hx.bits j v below v_below)) (sym (element_bit (width F) n ys hy.packed.long hy.bits j v below v_below))
+      ∙ sym (bit_at-xor _ _ v) ∙ ap (λ x. bit_at x v) (sym (sums_at j)))
 
   pub row_sum_holds : HoldsRow F n (row_sum xs ys)
   row_sum_holds = record {

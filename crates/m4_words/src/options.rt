@@ -28,7 +28,10 @@ pub(crate) fn with_option(choices: Choices, name: &str, value: &str) -> Option<C
             ..choices
         }),
         "--cutoff" => Some(Choices {
-            cutoff: Some(once(choices.cutoff, number_between(LEAST_CUTOFF, MOST_CUTOFF, value))?),
+            cutoff: Some(once(
+                choices.cutoff,
+                number_between(LEAST_CUTOFF, MOST_CUTOFF, value),
+            )?),
             ..choices
         }),
         "--in" => Some(Choices {
