@@ -1,6 +1,6 @@
 //! Products over every field.
 
-ghost use Rattle.std.specs.Prelude.{◌≡◌, ◌+◌, ◌*◌, ◌%◌, IfOk, OnErr};
+ghost use Rattle.std.specs.Prelude.{◌≡◌, ◌+◌, ◌*◌, ◌%◌, ◌≤◌, IfOk, OnErr};
 ghost use Rattle.m4_model.specs.Field.{width};
 ghost use Rattle.m4_model.specs.Matrix.{added, product};
 ghost use Rattle.m4_model.specs.Outcome.{HasRoom, with_product};
@@ -12,20 +12,22 @@ ghost use Rattle.m4_dense.specs.Engine.{can_multiply, engine_limits};
 use crate::chosen::Chosen;
 use crate::engine::Engine;
 use crate::how::How;
-use m4_model::NoMemory;
+use m4_model::{Algo, NoMemory};
 use m4_mzd::{Rect, Shape};
 use m4_mzed::Mzed;
-use m4_newton::{EAddMul, EPlain, OverBits};
+use m4_newton::{EAddMul, EPlain, MOST_STRIP, Newton, OverBits};
 use std::alloc::Global;
 
 /// The product of an m x l matrix `a` and an l x n matrix `b` over the same field: an m x n matrix.
 ///
-/// It takes memory for the product. Over GF(2), with tables, these take `tables * 2^k` rows of the product's length
-/// besides, and past 2,048 columns a part of the product is worked in room of its own, of at most 3 MiB.
+/// It takes memory for the product. With tables, these take `tables * 2^k` rows of the product's length besides, and past
+/// 2,048 columns of bits a part of the product is worked in room of its own, of at most 3 MiB. Over another field than GF(2)
+/// there are multiples of rows of `b` besides: 2 MiB at most, or 64 rows of the product's length.
 ///
 /// Over GF(2) the tables hold the sums of `k` rows of `b`: Albrecht, Bard and Hart, Efficient multiplication of dense
-/// matrices over GF(2), ACM Transactions on Mathematical Software 37, 2010; without them, and over other fields, m l
-/// multiples of a row of `b` are added.
+/// matrices over GF(2), ACM Transactions on Mathematical Software 37, 2010. Over another field the bits of `a` are multiplied, in
+/// the same way, with the multiples of the rows of `b` by the powers of x: Albrecht, The M4RIE library for dense linear algebra over
+/// small fields with even characteristic, ISSAC 2012. Where `Algo::Plain` is asked for, m l multiples of a row of `b` are added.
 pub fn product(alloc: Global, how: How, a: &Mzed, b: &Mzed) -> Result<Mzed, NoMemory>
     requires same_field { b.now.field ≡ a.now.field }
     requires inner { a.now.cols ≡ b.now.rows }
@@ -36,8 +38,11 @@ pub fn product(alloc: Global, how: How, a: &Mzed, b: &Mzed) -> Result<Mzed, NoMe
     if a.field().e() == 1 {
         let engine = product_engine(alloc, how, a, b)?;
         product_by(alloc, &mut OverBits { engine }, a, b)
-    } else {
+    } else if is_plain(how) {
         product_by(alloc, &mut EPlain, a, b)
+    } else {
+        let mut newton = product_newton(alloc, how, a, b)?;
+        product_by(alloc, &mut newton, a, b)
     }
 }
 
@@ -52,6 +57,29 @@ fn product_engine(alloc: Global, how: How, a: &Mzed, b: &Mzed) -> Result<Engine,
         n: b.cols(),
     };
     Engine::new(alloc, Chosen::for_product(how, shape), shape)
+}
+
+/// Whether products are asked for row by row.
+fn is_plain(how: How) -> bool {
+    how.algo == Some(Algo::Plain)
+}
+
+/// The engine over the field of these matrices, over the engine for bits that is asked for, for their product.
+fn product_newton(alloc: Global, how: How, a: &Mzed, b: &Mzed) -> Result<Newton<Engine>, NoMemory>
+    ensures field { IfOk result (λ newton. newton.field ≡ b.now.field) }
+    ensures rows { IfOk result (λ newton. a.now.rows ≤ newton.bits.m) }
+    ensures cols { IfOk result (λ newton. newton.cols ≡ b.now.cols) }
+{
+    let _rows = a.rows();
+    let field = b.field();
+    let shape = Shape {
+        m: a.rows(),
+        l: MOST_STRIP,
+        n: b.cols() * field.width(),
+    };
+    let engine = Engine::new(alloc, Chosen::for_product(how, shape), shape)?;
+    let newton = Newton::new(alloc, field, b.cols(), engine)?;
+    Ok(newton)
 }
 
 /// The product of two matrices by an engine.
@@ -105,8 +133,11 @@ pub fn add_product(
     if c.field().e() == 1 {
         let engine = product_engine(alloc, how, a, b)?;
         add_product_by(&mut OverBits { engine }, c, rect, a, b);
-    } else {
+    } else if is_plain(how) {
         add_product_by(&mut EPlain, c, rect, a, b);
+    } else {
+        let mut newton = product_newton(alloc, how, a, b)?;
+        add_product_by(&mut newton, c, rect, a, b);
     }
     Ok(())
 }
