@@ -613,7 +613,7 @@ fn options_stand_anywhere(rt: HostRuntime) -> Result<(), Fail> {
 const REFUSALS: [(&str, &str, Status); 13] = [
     ("", "gf2 0 0\n", Status::Text { operand: 1, at: 0 }),
     ("gf3 2 2\n11\n01\n", "", Status::Text { operand: 1, at: 2 }),
-    ("gf2e 2 7 1 1\n1\n", "", Status::Text { operand: 1, at: 3 }),
+    ("gf2e 2 7 1 1\n1\n", "", Status::Text { operand: 2, at: 0 }),
     ("gf2 02 2\n11\n01\n", "", Status::Text { operand: 1, at: 5 }),
     (
         "gf2 2 2\r\n11\r\n01\r\n",
