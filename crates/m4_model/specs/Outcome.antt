@@ -67,10 +67,25 @@ pub record HasRectangle (A : Matrix) (row col row_end col_end : ℕ) : Type 0 wh
   pub in_rows : row_end ≤ A.rows
   pub in_cols : col_end ≤ A.cols
 
--- The command is there for the operands' fields. A command that extension fields don't have yet takes operands over GF(2) alone.
+-- The matrices are over one field.
+abbrev pub ShareField : List Matrix → Type 0
+ShareField [] = Unit {0}
+ShareField (A ∷ matrices) = All (λ B. B.field ≡ A.field) matrices
+
+-- The matrices are over GF(2).
+abbrev pub AreOverBits : List Matrix → Type 0
+AreOverBits matrices = All (λ A. A.field ≡ gf2) matrices
+
+-- The operands are over one field, which has the command: extension fields don't have eliminations yet.
 abbrev pub AreServed : Command → List Matrix → Type 0
-AreServed Convert matrices = Unit {0}
-AreServed command matrices = All (λ A. A.field ≡ gf2) matrices
+AreServed Rank matrices = AreOverBits matrices
+AreServed Echelon matrices = AreOverBits matrices
+AreServed Inverse matrices = AreOverBits matrices
+AreServed Solve matrices = AreOverBits matrices
+AreServed Kernel matrices = AreOverBits matrices
+AreServed Ple matrices = AreOverBits matrices
+AreServed Pluq matrices = AreOverBits matrices
+AreServed command matrices = ShareField matrices
 
 -- The operands' shapes fit the command.
 abbrev pub Fits : Command → List Matrix → Type 0
