@@ -2,7 +2,7 @@
 use Rattle.std.specs.Prelude.{◌≡◌, ℕ, ◌+◌, ◌-◌, ◌*◌, ◌%◌, ◌≤◌, ◌⊎◌, List, [], ◌∷◌, ◌++◌, length, All, Option, Some, None, option_map, flat_map, find, bytes_eq, Ok, Err, codes, decimal}
 use Rattle.m4_model.specs.Field.{gf2, width}
 use Rattle.m4_model.specs.Matrix.{Matrix, added, product}
-use Rattle.m4_model.specs.Shapes.{transposed, above, beside, cut, replace}
+use Rattle.m4_model.specs.Shapes.{transposed, above, beside, LiesInside, cut, replace}
 use Rattle.m4_model.specs.Rank.{IsRank}
 use Rattle.m4_model.specs.Forms.{IsReduced, IsInverse, Singular, IsSolution, NoSolution, IsKernel}
 use Rattle.m4_model.specs.Factors.{IsPle, IsPluq}
@@ -61,11 +61,8 @@ pub record HasRoom (C : Matrix) (row col rows cols : ℕ) : Type 0 where
   pub within_cols : col + cols ≤ C.cols
 
 -- Rows `row` to `row_end - 1` and columns `col` to `col_end - 1` are those of a rectangle of A.
-pub record HasRectangle (A : Matrix) (row col row_end col_end : ℕ) : Type 0 where
-  pub in_order : row ≤ row_end
-  pub in_order_across : col ≤ col_end
-  pub in_rows : row_end ≤ A.rows
-  pub in_cols : col_end ≤ A.cols
+abbrev pub HasRectangle : Matrix → ℕ → ℕ → ℕ → ℕ → Type 0
+HasRectangle A row col row_end col_end = LiesInside row col row_end col_end A.rows A.cols
 
 -- The matrices are over one field.
 abbrev pub ShareField : List Matrix → Type 0

@@ -1,5 +1,5 @@
 -- Matrices made of parts of others, and orders of rows and columns.
-use Rattle.std.specs.Prelude.{ℕ, suc, ◌+◌, ◌-◌, List, [], ◌∷◌, swap, nat_lt, nat_le, ◌&&◌, if◌then◌else◌}
+use Rattle.std.specs.Prelude.{ℕ, suc, ◌+◌, ◌-◌, ◌≤◌, List, [], ◌∷◌, swap, nat_lt, nat_le, ◌&&◌, if◌then◌else◌}
 use Rattle.std.specs.List.{range_with_len}
 use Rattle.m4_model.specs.Matrix.{Matrix, matrix_of, at}
 
@@ -14,6 +14,13 @@ above A B = matrix_of A.field (A.rows + B.rows) A.cols (λ i j. if nat_lt i A.ro
 -- A left of B, which have equal rows.
 abbrev pub beside : Matrix → Matrix → Matrix
 beside A B = matrix_of A.field A.rows (A.cols + B.cols) (λ i j. if nat_lt j A.cols then at A i j else at B i (j - A.cols))
+
+-- Rows `row` to `row_end - 1` and columns `col` to `col_end - 1` are those of a rectangle of a matrix of so many rows and columns.
+pub record LiesInside (row col row_end col_end rows cols : ℕ) : Type 0 where
+  pub in_order : row ≤ row_end
+  pub in_order_across : col ≤ col_end
+  pub in_rows : row_end ≤ rows
+  pub in_cols : col_end ≤ cols
 
 -- The content of a rectangle: rows r0 to r1 - 1 and columns c0 to c1 - 1.
 abbrev pub cut : Matrix → ℕ → ℕ → ℕ → ℕ → Matrix

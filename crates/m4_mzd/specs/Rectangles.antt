@@ -1,15 +1,13 @@
 -- Rectangles of a matrix, by their first and last rows and columns.
-use Rattle.std.specs.Prelude.{◌≡◌, ◌≢◌, ℕ, ◌%◌, ◌≤◌, Result, Ok, Err}
+use Rattle.std.specs.Prelude.{◌≡◌, ◌≢◌, ℕ, ◌%◌, Result, Ok, Err}
+use Rattle.m4_model.specs.Shapes.{LiesInside}
 use Rattle.m4_mzd.specs.declared.rect.Rect.{Rect}
 use Rattle.m4_mzd.specs.declared.rect.RectFault.{RectFault}
 use Rattle.m4_mzd.specs.declared.rect.RectFault.TheVariants.{Unaligned, Outside}
 
 -- The rectangle lies in a matrix of so many rows and columns.
-pub record IsInside (rect : Rect) (rows cols : ℕ) : Type 0 where
-  pub in_order : rect.r0 ≤ rect.r1
-  pub in_order_across : rect.c0 ≤ rect.c1
-  pub in_rows : rect.r1 ≤ rows
-  pub in_cols : rect.c1 ≤ cols
+abbrev pub IsInside : Rect → ℕ → ℕ → Type 0
+IsInside rect rows cols = LiesInside rect.r0 rect.c0 rect.r1 rect.c1 rows cols
 
 -- What the check of a rectangle answers: its first column is a multiple of the step, or it is not; where it is, the
 -- rectangle lies inside, or it does not.
