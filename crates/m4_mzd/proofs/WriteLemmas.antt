@@ -238,3 +238,12 @@ wrote_zeros cols last old new xs w v is mask cleared h =
       };
       kept = λ j past. ap (λ l. bit l j) now ∙ bit-cleared_past old cols j h.long past;
     })
+
+-- the window once a row was made of two rows of others, and of what it held
+pub row_of_two_written : (v : Rectangle) (cols r i j : ℕ) (a b : Win) (w : Window) (own first second new entries : List ℕ) → window v cols ≡ w → IsFramed v cols → r < w.rows → own ≡ row_of v.words r
+    → i < a.view.rows → a.cols ≡ w.cols → first ≡ row_of (seen a.view) i → j < b.view.rows → b.cols ≡ w.cols → second ≡ row_of (seen b.view) j
+    → (Holds cols own (get_or w.bits r []) → Holds cols first (row (shown a) i) → Holds cols second (row (shown b) j) → Wrote cols own new entries)
+    → window (record v { words = with_row v.words r new }) cols ≡ record w { bits = set w.bits r entries }
+row_of_two_written v cols r i j a b w own first second new entries is f below was in_a wide_a first_is in_b wide_b second_is wrote =
+    row_written v cols r own new entries w is f below was
+    (wrote (holds_own v cols r own w is f below was) (holds_seen a cols i first w v is in_a wide_a first_is) (holds_seen b cols j second w v is in_b wide_b second_is))
