@@ -18,7 +18,7 @@ mod take;
 mod transpose;
 
 pub use digits::{put_digits, word_of_digits};
-pub use products::add_products;
+pub use products::{add_products, product_of};
 pub use rows::{
     clear, copy_into, set_sum, swap_into, xor_from_column, xor_from2, xor_from3, xor_from4,
     xor_from5, xor_from6, xor_from7, xor_from8, xor_into,

@@ -58,9 +58,10 @@ fn add_whole_words<const N: usize>(
     }
 }
 
-/// The sum, for each `i`, of factor `i` at each place of `low` where the word, shifted down by `i`, has a one.
+/// The product of one word: the sum, for each `i`, of factor `i` at each place of `low` where the word, shifted down by `i`,
+/// has a one.
 #[inline(always)]
-fn product_of<const N: usize>(word: u64, low: u64, factors: &[u64; N]) -> u64
+pub fn product_of<const N: usize>(word: u64, low: u64, factors: &[u64; N]) -> u64
     requires { N ≤ 64 }
     ensures { result ≡ products N low factors.now word }
 {

@@ -38,6 +38,18 @@ pub record AreFactors (F : Field) (n low x : ℕ) (factors : List ℕ) : Type 0 
   pub small : (i : ℕ) → get_or factors i 0 < 2 ^ F.degree
   pub rest : (i : ℕ) → F.degree ≤ i → get_or factors i 0 ≡ 0
 
+pub are_factors : (F : Field) → IsCarried F → (n low w x : ℕ) (factors : List ℕ) → F.degree ≤ n → low < 2 ^ 64 → w ≡ width F → ((k : ℕ) → k < 64 / w → element w k low ≡ 1)
+    → ((i : ℕ) → i < F.degree → get_or factors i 0 ≡ mul F (2 ^ i) x) → ((i : ℕ) → get_or factors i 0 < 2 ^ F.degree) → ((i : ℕ) → F.degree ≤ i → get_or factors i 0 ≡ 0) → AreFactors F n low x factors
+are_factors F carried n low w x factors enough low_small is ones powers small rest = record {
+  carried = carried;
+  enough = enough;
+  low_small = low_small;
+  ones = let P : ℕ → Type 0 = λ w. (k : ℕ) → k < 64 / w → element w k low ≡ 1 in subst P is ones;
+  powers = powers;
+  small = small;
+  rest = rest;
+}
+
 module _ (F : Field) (n low x : ℕ) (factors : List ℕ) (h : AreFactors F n low x factors) where
   term : ℕ → ℕ → ℕ
   term word i = bit_and (word / 2 ^ i) low * get_or factors i 0 % 2 ^ 64

@@ -1,8 +1,8 @@
 //! Rows of bits that hold elements: multiples of one are added to another, a row is scaled, and an element is written.
 
-ghost use Rattle.std.specs.Prelude.{◌≡◌, ℕ, ◌+◌, ◌*◌, ◌/◌, ◌%◌, ◌^◌, ◌<◌, ◌≤◌, ◌==◌, bit_xor, slice_index, if◌then◌else◌};
+ghost use Rattle.std.specs.Prelude.{◌≡◌, ℕ, ◌+◌, ◌*◌, ◌/◌, ◌%◌, ◌^◌, ◌<◌, ◌≤◌, ◌==◌, bit_xor, if◌then◌else◌};
 ghost use Rattle.std.specs.Int.{bit_at};
-ghost use Rattle.m4_model.specs.Field.{mul, width};
+ghost use Rattle.m4_model.specs.Field.{width};
 ghost use Rattle.m4_model.specs.Matrix.{at, row, with_row};
 ghost use Rattle.m4_field.specs.Fields.{the_field};
 ghost use Rattle.m4_mzd.specs.Window.{content, showing};
@@ -11,8 +11,8 @@ ghost use Rattle.m4_mzd.specs.Rows.{sum_from};
 ghost use Rattle.m4_mzed.specs.Packed.{unpacked, IsPackedRow};
 ghost use Rattle.m4_mzed.specs.Rows.{packed_multiples};
 
-use crate::word::{multiple, ones};
-use m4_bits::words_for;
+use crate::word::{factors, ones};
+use m4_bits::{product_of, words_for};
 use m4_field::Field;
 use m4_mzd::{Win, WinMut};
 
@@ -103,23 +103,6 @@ fn add_by<const N: usize>(
     bits.add_products(r, from, s, first, low, &factors::<N>(f, x));
 }
 
-/// The multiples of `x` by the powers of x that an element has, and zeros after them.
-fn factors<const N: usize>(f: &Field, x: u32) -> [u64; N]
-    requires enough { (the_field f.now).degree ≤ N }
-    requires element { x < 2 ^ (the_field f.now).degree }
-    ensures powers { (i : ℕ) → i < (the_field f.now).degree → slice_index result i ≡ mul (the_field f.now) (2 ^ i) x }
-    ensures elements { (i : ℕ) → slice_index result i < 2 ^ (the_field f.now).degree }
-    ensures rest { (i : ℕ) → (the_field f.now).degree ≤ i → slice_index result i ≡ 0 }
-{
-    let mut list = [0u64; N];
-    let mut factor = x;
-    for i in 0..f.e() {
-        list[i as usize] = u64::from(factor);
-        factor = f.times_x(factor);
-    }
-    list
-}
-
 /// Adds `d` to element `c` of row `r`.
 pub(crate) fn add_to_element(f: &Field, cols: u32, bits: &mut WinMut, r: u32, c: u32, d: u32)
     requires in_rows { r < bits.old.rows }
@@ -144,9 +127,31 @@ pub(crate) fn scale(f: &Field, cols: u32, bits: &mut WinMut, r: u32, x: u32)
     requires element { x < 2 ^ (the_field f.now).degree }
     ensures { bits.new ≡ showing bits.old (with_row (content bits.old) r (packed_multiples (the_field f.now) cols x (row (content bits.old) r))) }
 {
+    let _degree = f.e();
+    match f.width() {
+        1 => scale_by::<1>(f, cols, bits, r, x),
+        2 => scale_by::<2>(f, cols, bits, r, x),
+        4 => scale_by::<4>(f, cols, bits, r, x),
+        8 => scale_by::<8>(f, cols, bits, r, x),
+        _ => scale_by::<16>(f, cols, bits, r, x),
+    }
+}
+
+/// The same with the products of `N` factors, as many as an element has bits at most.
+fn scale_by<const N: usize>(f: &Field, cols: u32, bits: &mut WinMut, r: u32, x: u32)
+    requires enough { (the_field f.now).degree ≤ N }
+    requires few { N ≤ 16 }
+    requires in_rows { r < bits.old.rows }
+    requires wide { bits.old.cols ≡ cols * width (the_field f.now) }
+    requires source { IsPackedRow (the_field f.now) cols (row (content bits.old) r) }
+    requires element { x < 2 ^ (the_field f.now).degree }
+    ensures { bits.new ≡ showing bits.old (with_row (content bits.old) r (packed_multiples (the_field f.now) cols x (row (content bits.old) r))) }
+{
     let _rows = bits.rows();
+    let low = ones(f.width());
+    let list = factors::<N>(f, x);
     for w in 0..words_for(bits.cols()) {
-        let product = multiple(f, bits.word(r, w), x);
+        let product = product_of(bits.word(r, w), low, &list);
         bits.set_word(r, w, product);
     }
 }

@@ -1,10 +1,11 @@
 //! The elements of a word, multiplied by one.
 
-ghost use Rattle.std.specs.Prelude.{◌≡◌, ℕ, ◌/◌, ◌^◌, ◌<◌, ◌==◌, ◌||◌, IsTrue};
+ghost use Rattle.std.specs.Prelude.{◌≡◌, ℕ, ◌/◌, ◌^◌, ◌<◌, ◌≤◌, ◌==◌, ◌||◌, IsTrue, slice_index};
 ghost use Rattle.m4_model.specs.Field.{mul, width};
 ghost use Rattle.m4_field.specs.Fields.{the_field};
 ghost use Rattle.m4_mzed.specs.Words.{element, AreElements};
 
+use m4_bits::product_of;
 use m4_field::Field;
 
 /// The word whose elements, of so many bits each, are 1.
@@ -27,21 +28,21 @@ pub(crate) fn ones(width_bits: u32) -> u64
     }
 }
 
-/// Multiplies each of the elements of the word by `x`.
-#[inline]
-pub(crate) fn multiple(f: &Field, word: u64, x: u32) -> u64
-    requires elements { AreElements (the_field f.now) (width (the_field f.now)) word }
+/// The multiples of `x` by the powers of x that an element has, and zeros after them.
+pub(crate) fn factors<const N: usize>(f: &Field, x: u32) -> [u64; N]
+    requires enough { (the_field f.now).degree ≤ N }
     requires element { x < 2 ^ (the_field f.now).degree }
-    ensures { (k : ℕ) → k < 64 / width (the_field f.now) → element (width (the_field f.now)) k result ≡ mul (the_field f.now) (element (width (the_field f.now)) k word) x }
+    ensures powers { (i : ℕ) → i < (the_field f.now).degree → slice_index result i ≡ mul (the_field f.now) (2 ^ i) x }
+    ensures elements { (i : ℕ) → slice_index result i < 2 ^ (the_field f.now).degree }
+    ensures rest { (i : ℕ) → (the_field f.now).degree ≤ i → slice_index result i ≡ 0 }
 {
-    let low = ones(f.width());
+    let mut list = [0u64; N];
     let mut factor = x;
-    let mut sum = 0;
     for i in 0..f.e() {
-        sum ^= ((word >> i) & low) * u64::from(factor);
+        list[i as usize] = u64::from(factor);
         factor = f.times_x(factor);
     }
-    sum
+    list
 }
 
 /// Multiplies each of the elements of the word by `x`. `W` is the width of the field's elements. As in the word, the bits of
@@ -57,5 +58,5 @@ pub fn mul_word<const W: usize>(f: &Field, word: u64, x: u32) -> u64
     ensures products { (k : ℕ) → k < 64 / W → element W k result ≡ mul (the_field f.now) (element W k word) x }
     ensures elements { AreElements (the_field f.now) W result }
 {
-    multiple(f, word, x)
+    product_of(word, ones(f.width()), &factors::<W>(f, x))
 }

@@ -1,7 +1,7 @@
 use Rattle.std.proofs.Common.{ℕ, ◌+◌, ◌<◌, sym, subst, set, arith}
 use Rattle.m4_field.specs.Fields.{the_field}
 use Rattle.m4_mzed.proofs.FactorLemmas.{AreFirst, none_written, more_written}
-use Rattle.m4_mzed.proofs.row.factors.Goals as goal
+use Rattle.m4_mzed.proofs.word.factors.Goals as goal
 
 pub loop-i-init : goal.loop-i-init
 loop-i-init g c = none_written (the_field c.args.f.now) c.args.f.now.carried g.row.N c.args.x c.requires.element
