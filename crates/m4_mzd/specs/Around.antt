@@ -50,7 +50,7 @@ pub record IsAround (around : Around) (part : Window) (rect : Rect) (A : Matrix)
   pub past : part.past ≡ map (bits_past (rect.c1 - rect.c0)) (words_of_rect whole rect).words
 
 -- The window was taken out of some rectangle of some matrix, of which the rest lies around it.
-pub record Fits (around : Around) (part : Window) : Type 0 where
+pub record IsTakenOut (around : Around) (part : Window) : Type 0 where
   pub rect : Rect
   pub matrix : Matrix
   pub is : IsAround around part rect matrix

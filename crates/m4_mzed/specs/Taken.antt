@@ -31,7 +31,7 @@ pub record IsAround (around : Around) (part : EWindow) (rect : Rect) (A : Matrix
   pub is : around_bits.IsAround around (place_of part) (scaled (width A.field) rect) bits
 
 -- The window was taken out of some rectangle of some matrix, of which the rest lies around it.
-pub record Fits (around : Around) (part : EWindow) : Type 0 where
+pub record IsTakenOut (around : Around) (part : EWindow) : Type 0 where
   pub rect : Rect
   pub matrix : Matrix
   pub is : IsAround around part rect matrix

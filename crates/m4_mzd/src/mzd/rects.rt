@@ -6,7 +6,7 @@ ghost use Rattle.m4_model.specs.Shapes.{cut, replace};
 ghost use Rattle.m4_mzd.specs.declared.rect.Rect.{Rect};
 ghost use Rattle.m4_mzd.specs.Window.{content, showing};
 ghost use Rattle.m4_mzd.specs.Rectangles.{IsInside};
-ghost use Rattle.m4_mzd.specs.Around.{IsAround, Fits};
+ghost use Rattle.m4_mzd.specs.Around.{IsAround, IsTakenOut};
 
 use super::Mzd;
 use super::around::Around;
@@ -54,7 +54,7 @@ impl Mzd {
     /// Takes a rectangle's window back, whatever its entries are by now. The matrix is then the one that the window was
     /// taken from, with the rectangle replaced by what the window holds.
     pub fn put_win(&mut self, part: WinMut, around: Around)
-        requires fits { Fits around part }
+        requires fits { IsTakenOut around part }
         ensures { (rect : Rect) (A : Matrix) → IsAround around part rect A → self.new ≡ replace A rect.r0 rect.c0 (content part) }
     {
         let WinMut { words, cols: _ } = part;

@@ -7,7 +7,7 @@ ghost use Rattle.m4_model.specs.Shapes.{cut, replace};
 ghost use Rattle.m4_mzd.specs.declared.rect.Rect.{Rect};
 ghost use Rattle.m4_mzd.specs.Rectangles.{IsInside};
 ghost use Rattle.m4_mzed.specs.EWindow.{content, showing};
-ghost use Rattle.m4_mzed.specs.Taken.{IsAround, Fits};
+ghost use Rattle.m4_mzed.specs.Taken.{IsAround, IsTakenOut};
 
 use super::Mzed;
 use crate::win_mut::EWinMut;
@@ -50,7 +50,7 @@ impl Mzed {
     /// Takes a rectangle's window back, whatever its entries are by now. The matrix is then the one that the window was
     /// taken from, with the rectangle replaced by what the window holds.
     pub fn put_win(&mut self, part: EWinMut, around: Around)
-        requires fits { Fits around part }
+        requires fits { IsTakenOut around part }
         ensures { (rect : Rect) (A : Matrix) → IsAround around part rect A → self.new ≡ replace A rect.r0 rect.c0 (content part) }
     {
         let EWinMut {

@@ -40,6 +40,17 @@ around_same around v w rect P place skip rows cols past is = record {
   past = sym past ∙ is.past;
 }
 
+-- what lies around a window over the field lies around its bits
+around_its_bits : (F : Field) (m : ℕ) (w : Window) (part : EWindow) (around : Around) → elements F m w ≡ part → IsPacked F m w → (rect : Rect) (A : Matrix) (h : IsAround around part rect A)
+    → around_bits.IsAround around w (scaled (width F) rect) h.bits
+around_its_bits F m w part around view is rect A h =
+    let field : A.field ≡ F = sym h.field ∙ sym (ap (λ (v : EWindow). v.field) view) in
+    let R : Field → Type 0 = λ G. around_bits.IsAround around (place_of part) (scaled (width G) rect) h.bits in
+    around_same around (place_of part) w (scaled (width F) rect) h.bits
+    (sym (ap (λ (v : EWindow). v.place) view)) (sym (ap (λ (v : EWindow). v.skip) view)) (sym (ap (λ (v : EWindow). v.rows) view))
+    (sym (is.wide ∙ ap (λ (v : EWindow). v.cols * width v.field) view)) (sym (ap (λ (v : EWindow). v.past) view))
+    (subst R field h.is)
+
 record Put (F : Field) (m q k : ℕ) (w : Window) (Q : Matrix) (part : EWindow) (around : Around) : Type 0 where
   view : elements F m w ≡ part
   is : IsPacked F m w
@@ -59,16 +70,8 @@ module _ (F : Field) (m q k : ℕ) (w : Window) (Q : Matrix) (part : EWindow) (a
   packed : IsPackedIn F A.cols h.bits
   packed = let R : Field → Type 0 = λ G. IsPackedIn G A.cols h.bits in subst R field h.packed
 
-  is_around : around_bits.IsAround around w (scaled (width F) rect) h.bits
-  is_around =
-      let R : Field → Type 0 = λ G. around_bits.IsAround around (place_of part) (scaled (width G) rect) h.bits in
-      around_same around (place_of part) w (scaled (width F) rect) h.bits
-      (sym (ap (λ (v : EWindow). v.place) p.view)) (sym (ap (λ (v : EWindow). v.skip) p.view)) (sym (ap (λ (v : EWindow). v.rows) p.view))
-      (sym (p.is.wide ∙ ap (λ (v : EWindow). v.cols * width v.field) p.view)) (sym (ap (λ (v : EWindow). v.past) p.view))
-      (subst R field h.is)
-
   shows : Q ≡ replace h.bits rect.r0 (rect.c0 * width F) (bit_content w)
-  shows = p.gives (scaled (width F) rect) h.bits is_around
+  shows = p.gives (scaled (width F) rect) h.bits (around_its_bits F m w part around p.view p.is rect A h)
 
   count : q / k ≡ A.cols
   count =
@@ -85,6 +88,18 @@ module _ (F : Field) (m q k : ℕ) (w : Window) (Q : Matrix) (part : EWindow) (a
       ap (λ n. e_matrix F n Q) count
       ∙ put_shows F A.cols m h.bits Q w rect.r0 rect.c0 packed h.matrix h.over p.is p.shape p.q_shape shows
       ∙ ap₂ (λ (B : Matrix) (v : EWindow). replace B rect.r0 rect.c0 (content v)) (ap (λ (G : Field). e_matrix G A.cols h.bits) (sym field) ∙ h.shows) p.view
+
+pub put_win-requires : goal.put_win-requires
+put_win-requires c =
+    let f = c.requires.fits in
+    let F = the_field c.part.inside.field in
+    record {
+      fits = record {
+        rect = scaled (width F) f.rect;
+        matrix = f.is.bits;
+        is = around_its_bits F c.part.inside.cols c.part.inside.bits c.args.part c.args.around c.part.view_is c.part.invariant f.rect f.matrix f.is;
+      };
+    }
 
 pub invariant_of-self : goal.invariant_of-self
 invariant_of-self c =

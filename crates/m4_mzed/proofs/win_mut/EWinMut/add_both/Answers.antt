@@ -15,14 +15,14 @@ use Rattle.m4_mzed.proofs.RowSums.{HoldsRow, both_packed, both_elements}
 use Rattle.m4_mzed.proofs.win_mut.EWinMut.add_both.Goals as goal
 
 -- row i of a window for reading fits one for writing
-record Fits (e : EWindow) (a : EWin) (i : ℕ) : Type 0 where
+record HasRow (e : EWindow) (a : EWin) (i : ℕ) : Type 0 where
   seen : IsMatrix (shown a.bits)
   field : (e_shown a).field ≡ e.field
   cols : (e_shown a).cols ≡ e.cols
   within : i < (e_shown a).rows
 
 -- its bits hold elements, and are those of its entries
-module _ (F : Field) (n : ℕ) (e : EWindow) (w : Window) (view : elements F n w ≡ e) (a : EWin) (i : ℕ) (f : Fits e a i) where
+module _ (F : Field) (n : ℕ) (e : EWindow) (w : Window) (view : elements F n w ≡ e) (a : EWin) (i : ℕ) (f : HasRow e a i) where
   over : the_field a.field ≡ F
   over = f.field ∙ sym (ap (λ (v : EWindow). v.field) view)
 
@@ -44,8 +44,8 @@ record Given (F : Field) (n r i j : ℕ) (a b : EWin) (e : EWindow) (w next : Wi
   is : IsPacked F n w
   shape : IsWindow w
   below : r < e.rows
-  first : Fits e a i
-  second : Fits e b j
+  first : HasRow e a i
+  second : HasRow e b j
   kept : next ≡ bit_showing w (with_row (bit_content w) r (row_sum (row_sum (row (bit_content w) r) (row (shown a.bits) i)) (row (shown b.bits) j)))
 
 module _ (F : Field) (n r i j : ℕ) (a b : EWin) (e : EWindow) (w next : Window) (g : Given F n r i j a b e w next) where
