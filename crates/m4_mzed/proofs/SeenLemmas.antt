@@ -1,10 +1,11 @@
 -- Windows for reading, by windows for writing that stand for the same bits.
-use Rattle.std.proofs.Common.{◌≡◌, ℕ, ◌-◌, ◌*◌, ◌^◌, ◌≤◌, List, length, replicate, refl, sym, ◌∙◌, ap, subst, arith}
+use Rattle.std.proofs.Common.{◌≡◌, ℕ, ◌-◌, ◌*◌, ◌≤◌, List, length, replicate, refl, sym, ◌∙◌, ap, subst, arith}
 use Rattle.std.proofs.lemmas.List.{length-replicate, get_or-replicate}
 use Rattle.m4_model.specs.Field.{Field, gf2}
 use Rattle.m4_model.specs.Matrix.{Matrix, IsMatrix}
 use Rattle.m4_model.specs.Text.{words_per_row}
 use Rattle.m4_field.specs.Fields.{the_field}
+use Rattle.m4_mzd.specs.declared.TheConstants.{MOST_SIDE}
 use Rattle.m4_mzd.specs.Window.{Window, IsWindow}
 use Rattle.m4_mzd.specs.Window.{content as bit_content, showing as bit_showing}
 use Rattle.m4_mzd.specs.Seen.{shown}
@@ -28,7 +29,7 @@ as_window A = record {
   past = replicate A.rows (replicate (words_per_row A.cols * 64 - A.cols) 0);
 }
 
-pub IsWindow-as_window : (A : Matrix) → IsMatrix (bit_content (as_window A)) → A.rows ≤ 2 ^ 24 → A.cols ≤ 2 ^ 24 → IsWindow (as_window A)
+pub IsWindow-as_window : (A : Matrix) → IsMatrix (bit_content (as_window A)) → A.rows ≤ MOST_SIDE → A.cols ≤ MOST_SIDE → IsWindow (as_window A)
 IsWindow-as_window A matrix few_rows few_cols =
     let n = words_per_row A.cols * 64 - A.cols in
     record {
@@ -50,7 +51,7 @@ pub seen_matrix : (w : EWin) → IsMatrix (e_shown w)
 seen_matrix w = packed_matrix (the_field w.field) w.cols (as_window (shown w.bits)) (packed_as_window (the_field w.field) w.cols (shown w.bits) w.packed)
 
 -- over GF(2) the elements that are seen are the bits
-pub seen_bits : (w : EWin) → IsMatrix (shown w.bits) → (shown w.bits).rows ≤ 2 ^ 24 → (shown w.bits).cols ≤ 2 ^ 24 → the_field w.field ≡ gf2 → e_shown w ≡ shown w.bits
+pub seen_bits : (w : EWin) → IsMatrix (shown w.bits) → (shown w.bits).rows ≤ MOST_SIDE → (shown w.bits).cols ≤ MOST_SIDE → the_field w.field ≡ gf2 → e_shown w ≡ shown w.bits
 seen_bits w matrix few_rows few_cols over =
     shows_bits (the_field w.field) w.cols (as_window (shown w.bits)) (IsWindow-as_window (shown w.bits) matrix few_rows few_cols) over
     (cols_gf2 (the_field w.field) w.cols (as_window (shown w.bits)) over w.packed.wide)
@@ -72,7 +73,7 @@ module _ (F : Field) (n : ℕ) (w next : Window) (over : F ≡ gf2) (is : IsPack
       (ap (λ (v : Window). v.past) written)
 
 -- a matrix over GF(2) as the bits that it is packed in
-module _ (F : Field) (n : ℕ) (A : Matrix) (shape : IsMatrix A) (over : A.field ≡ gf2) (few_rows : A.rows ≤ 2 ^ 24) (few_cols : A.cols ≤ 2 ^ 24) (field : F ≡ gf2) (cols : n ≡ A.cols) where
+module _ (F : Field) (n : ℕ) (A : Matrix) (shape : IsMatrix A) (over : A.field ≡ gf2) (few_rows : A.rows ≤ MOST_SIDE) (few_cols : A.cols ≤ MOST_SIDE) (field : F ≡ gf2) (cols : n ≡ A.cols) where
   same : A ≡ bit_content (as_window A)
   same = λ i. record { field = over i; rows = A.rows; cols = A.cols; entries = A.entries }
 

@@ -1,8 +1,9 @@
 -- What contracts see of a window over any field: a rectangle of entries that may be read and written.
-use Rattle.std.specs.Prelude.{◌≡◌, ℕ, ◌+◌, ◌*◌, ◌/◌, ◌%◌, ◌^◌, ◌≤◌, List}
+use Rattle.std.specs.Prelude.{◌≡◌, ℕ, ◌+◌, ◌*◌, ◌/◌, ◌%◌, ◌≤◌, List}
 use Rattle.m4_model.specs.Field.{Field, width}
 use Rattle.m4_model.specs.Matrix.{Matrix}
 use Rattle.m4_area.specs.Rectangle.{Place}
+use Rattle.m4_mzd.specs.declared.TheConstants.{MOST_SIDE}
 
 -- A window: its field, the memory that it was cut from, the words before its first one there, its rows and columns, the
 -- rows of its entries, and for each row the bits past the last column in the row's last word, which belong to others.
@@ -29,7 +30,7 @@ pub record IsBelow (above below : EWindow) : Type 0 where
   pub place : below.place ≡ above.place
   pub cols : below.cols ≡ above.cols
   pub meets : below.skip ≡ above.skip + above.rows * above.place.stride
-  pub few_rows : above.rows + below.rows ≤ 2 ^ 24
+  pub few_rows : above.rows + below.rows ≤ MOST_SIDE
 
 -- The second window lies right beside the first, which ends where a word does.
 pub record IsBeside (left right : EWindow) : Type 0 where
@@ -38,7 +39,7 @@ pub record IsBeside (left right : EWindow) : Type 0 where
   pub rows : right.rows ≡ left.rows
   pub whole_words : left.cols * width left.field % 64 ≡ 0
   pub meets : right.skip ≡ left.skip + left.cols * width left.field / 64
-  pub few_bits : (left.cols + right.cols) * width left.field ≤ 2 ^ 24
+  pub few_bits : (left.cols + right.cols) * width left.field ≤ MOST_SIDE
 
 -- Four windows are the quarters of one: top left, top right, bottom left and bottom right.
 pub record AreQuarters (top_left top_right bottom_left bottom_right : EWindow) : Type 0 where

@@ -9,7 +9,7 @@ ghost use Rattle.m4_mzed.specs.PackedIn.{IsPackedIn};
 
 use m4_field::Field;
 use m4_model::NoMemory;
-use m4_mzd::Mzd;
+use m4_mzd::{MOST_SIDE, Mzd};
 use std::alloc::Global;
 use std::marker::Model;
 
@@ -44,8 +44,8 @@ impl Model for Mzed {
 impl Mzed {
     /// The matrix of zeros of so many rows and columns.
     pub fn zeros(alloc: Global, field: Field, rows: u32, cols: u32) -> Result<Mzed, NoMemory>
-        requires few_rows { rows ≤ 2 ^ 24 }
-        requires few_bits { cols * width (the_field field) ≤ 2 ^ 24 }
+        requires few_rows { rows ≤ MOST_SIDE }
+        requires few_bits { cols * width (the_field field) ≤ MOST_SIDE }
         ensures { IfOk result (λ m. m ≡ zero_matrix (the_field field) rows cols) }
     {
         let bits = Mzd::zeros(alloc, rows, cols * field.width())?;
@@ -105,8 +105,8 @@ impl Mzed {
     pub fn rows(&self) -> u32
         ensures rows { result ≡ self.now.rows }
         ensures matrix { IsMatrix self.now }
-        ensures few_rows { self.now.rows ≤ 2 ^ 24 }
-        ensures few_bits { self.now.cols * width self.now.field ≤ 2 ^ 24 }
+        ensures few_rows { self.now.rows ≤ MOST_SIDE }
+        ensures few_bits { self.now.cols * width self.now.field ≤ MOST_SIDE }
     {
         self.all().rows()
     }
@@ -115,8 +115,8 @@ impl Mzed {
     pub fn cols(&self) -> u32
         ensures cols { result ≡ self.now.cols }
         ensures matrix { IsMatrix self.now }
-        ensures few_rows { self.now.rows ≤ 2 ^ 24 }
-        ensures few_bits { self.now.cols * width self.now.field ≤ 2 ^ 24 }
+        ensures few_rows { self.now.rows ≤ MOST_SIDE }
+        ensures few_bits { self.now.cols * width self.now.field ≤ MOST_SIDE }
     {
         self.all().cols()
     }

@@ -5,7 +5,7 @@ ghost use Rattle.m4_mzd.specs.Seen.{shown};
 ghost use Rattle.m4_mzed.specs.PackedIn.{IsPackedIn};
 
 use m4_field::Field;
-use m4_mzd::Win;
+use m4_mzd::{MOST_SIDE, Win};
 
 mod bits;
 mod parts;
@@ -30,8 +30,8 @@ impl<'a> EWin<'a> {
     pub fn rows(&self) -> u32
         ensures rows { result ≡ (e_shown self.now).rows }
         ensures matrix { IsMatrix (e_shown self.now) }
-        ensures few_rows { (e_shown self.now).rows ≤ 2 ^ 24 }
-        ensures few_bits { (e_shown self.now).cols * width (e_shown self.now).field ≤ 2 ^ 24 }
+        ensures few_rows { (e_shown self.now).rows ≤ MOST_SIDE }
+        ensures few_bits { (e_shown self.now).cols * width (e_shown self.now).field ≤ MOST_SIDE }
     {
         self.bits.rows()
     }
@@ -41,8 +41,8 @@ impl<'a> EWin<'a> {
     pub fn cols(&self) -> u32
         ensures cols { result ≡ (e_shown self.now).cols }
         ensures matrix { IsMatrix (e_shown self.now) }
-        ensures few_rows { (e_shown self.now).rows ≤ 2 ^ 24 }
-        ensures few_bits { (e_shown self.now).cols * width (e_shown self.now).field ≤ 2 ^ 24 }
+        ensures few_rows { (e_shown self.now).rows ≤ MOST_SIDE }
+        ensures few_bits { (e_shown self.now).cols * width (e_shown self.now).field ≤ MOST_SIDE }
     {
         let _rows = self.rows();
         self.cols

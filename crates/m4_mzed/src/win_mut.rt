@@ -8,7 +8,7 @@ ghost use Rattle.m4_mzed.specs.EWindow.{content, showing};
 
 use crate::row::add_to_element;
 use m4_field::Field;
-use m4_mzd::WinMut;
+use m4_mzd::{MOST_SIDE, WinMut};
 use std::marker::Model;
 
 mod bits;
@@ -48,8 +48,8 @@ impl EWinMut {
     pub fn rows(&self) -> u32
         ensures rows { result ≡ self.now.rows }
         ensures matrix { IsMatrix (content self.now) }
-        ensures few_rows { self.now.rows ≤ 2 ^ 24 }
-        ensures few_bits { self.now.cols * width self.now.field ≤ 2 ^ 24 }
+        ensures few_rows { self.now.rows ≤ MOST_SIDE }
+        ensures few_bits { self.now.cols * width self.now.field ≤ MOST_SIDE }
     {
         self.bits.rows()
     }
@@ -59,8 +59,8 @@ impl EWinMut {
     pub fn cols(&self) -> u32
         ensures cols { result ≡ self.now.cols }
         ensures matrix { IsMatrix (content self.now) }
-        ensures few_rows { self.now.rows ≤ 2 ^ 24 }
-        ensures few_bits { self.now.cols * width self.now.field ≤ 2 ^ 24 }
+        ensures few_rows { self.now.rows ≤ MOST_SIDE }
+        ensures few_bits { self.now.cols * width self.now.field ≤ MOST_SIDE }
     {
         let _rows = self.rows();
         self.cols
