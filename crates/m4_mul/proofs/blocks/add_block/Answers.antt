@@ -10,6 +10,19 @@ use Rattle.m4_mul.proofs.blocks.add_block.Given.{Over}
 use Rattle.m4_mul.proofs.blocks.add_block.Goals.{After-put_win}
 use Rattle.m4_mul.proofs.blocks.add_block.Goals as goal
 
+pub put_win-requires : goal.put_win-requires
+put_win-requires g c =
+    let rect : Rect = record { r0 = 0; c0 = 0; r1 = c.rows.result; c1 = c.cols.result } in
+    let S = added (content c.copy_rows.new.self) (product (shown c.args.a.now) (shown c.args.b.now)) in
+    record {
+      fits = record {
+        rect = rect;
+        matrix = c.packed.inside.block;
+        is = still_around c.win_mut-part.result.1 c.win_mut-part.result.0 c.add_panels.new.c rect c.packed.inside.block S c.win_mut-part.ensures.whatever_it_shows
+            (c.add_panels.ensures.sum ∙ ap (λ (w : Window). showing w S) c.copy_rows.ensures);
+      };
+    }
+
 -- the block is what it was, but for the entries of the window
 block_kept : (g : Over) → (c : After-put_win g) → c.put_win.new.self ≡ replace c.packed.inside.block 0 0 (content c.add_panels.new.c)
 block_kept g c =

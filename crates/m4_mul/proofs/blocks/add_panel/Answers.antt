@@ -10,6 +10,17 @@ use Rattle.m4_mul.proofs.blocks.add_panel.Given.{Over}
 use Rattle.m4_mul.proofs.blocks.add_panel.Goals.{After-put_win}
 use Rattle.m4_mul.proofs.blocks.add_panel.Goals as goal
 
+pub put_win-requires : goal.put_win-requires
+put_win-requires g c =
+    let rect : Rect = record { r0 = 0; c0 = 0; r1 = c.rows.result; c1 = c.args.width } in
+    record {
+      fits = record {
+        rect = rect;
+        matrix = c.args.panel.now;
+        is = still_around c.win_mut-part.result.1 c.win_mut-part.result.0 c.copy_rows.new.self rect c.args.panel.now (shown c.narrow.result) c.win_mut-part.ensures.whatever_it_shows c.copy_rows.ensures;
+      };
+    }
+
 pub returns-clause-sum : goal.returns-clause-sum
 returns-clause-sum g c =
     let W = c.args.c.now in

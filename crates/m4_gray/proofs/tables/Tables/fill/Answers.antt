@@ -26,6 +26,20 @@ win_mut-part-requires-clause-inside g c =
       in_cols = omega (arith, c.cols.ensures.cols, c.requires.in_cols, ap (λ (t : Slots). t.entries.cols) c.self.view_is);
     }
 
+pub put_win-requires : goal.put_win-requires
+put_win-requires g c =
+    let E = c.self.inside.entries in
+    let S = subset_sums (shown c.args.b.now) c.args.first c.args.bits in
+    let begin = c.args.slot * 2 ^ c.self.inside.k % 2 ^ 32 in
+    let rect : Rect = record { r0 = begin; c0 = 0; r1 = begin + 1 * 2 ^ c.args.bits % 2 ^ 32; c1 = c.cols.result } in
+    record {
+      fits = record {
+        rect = rect;
+        matrix = E;
+        is = still_around c.win_mut-part.result.1 c.win_mut-part.result.0 c.fill_with_sums.new.part rect E S c.win_mut-part.ensures.whatever_it_shows c.fill_with_sums.ensures.sums;
+      };
+    }
+
 -- the sums stand in the place of the slot's first entries
 slot_replaced : (g : Over) → (c : After-rows-rows g)
     → c.put_win.new.self ≡ replace c.self.inside.entries (c.args.slot * 2 ^ c.self.inside.k % 2 ^ 32) 0 (subset_sums (shown c.args.b.now) c.args.first c.args.bits)
