@@ -1,6 +1,6 @@
 -- What a run of the program has to answer: its status and its text, from its words and the files at hand.
 use Rattle.std.specs.Prelude.{◌≡◌, ℕ, ◌+◌, ◌-◌, ◌*◌, ◌%◌, ◌≤◌, ◌⊎◌, List, [], ◌∷◌, ◌++◌, length, All, Option, Some, None, option_map, flat_map, find, bytes_eq, Ok, Err, codes, decimal}
-use Rattle.m4_model.specs.Field.{gf2, width}
+use Rattle.m4_model.specs.Field.{Field, gf2, width}
 use Rattle.m4_model.specs.Matrix.{Matrix, added, product}
 use Rattle.m4_model.specs.Shapes.{transposed, above, beside, LiesInside, cut, replace}
 use Rattle.m4_model.specs.Rank.{IsRank}
@@ -64,24 +64,24 @@ pub record HasRoom (C : Matrix) (row col rows cols : ℕ) : Type 0 where
 abbrev pub HasRectangle : Matrix → ℕ → ℕ → ℕ → ℕ → Type 0
 HasRectangle A row col row_end col_end = LiesInside row col row_end col_end A.rows A.cols
 
+-- The matrices are over this field.
+abbrev pub AreOver : Field → List Matrix → Type 0
+AreOver F matrices = All (λ A. A.field ≡ F) matrices
+
 -- The matrices are over one field.
 abbrev pub ShareField : List Matrix → Type 0
 ShareField [] = Unit {0}
-ShareField (A ∷ matrices) = All (λ B. B.field ≡ A.field) matrices
-
--- The matrices are over GF(2).
-abbrev pub AreOverBits : List Matrix → Type 0
-AreOverBits matrices = All (λ A. A.field ≡ gf2) matrices
+ShareField (A ∷ matrices) = AreOver A.field matrices
 
 -- The operands are over one field, which has the command: extension fields don't have eliminations yet.
 abbrev pub AreServed : Command → List Matrix → Type 0
-AreServed Rank matrices = AreOverBits matrices
-AreServed Echelon matrices = AreOverBits matrices
-AreServed Inverse matrices = AreOverBits matrices
-AreServed Solve matrices = AreOverBits matrices
-AreServed Kernel matrices = AreOverBits matrices
-AreServed Ple matrices = AreOverBits matrices
-AreServed Pluq matrices = AreOverBits matrices
+AreServed Rank matrices = AreOver gf2 matrices
+AreServed Echelon matrices = AreOver gf2 matrices
+AreServed Inverse matrices = AreOver gf2 matrices
+AreServed Solve matrices = AreOver gf2 matrices
+AreServed Kernel matrices = AreOver gf2 matrices
+AreServed Ple matrices = AreOver gf2 matrices
+AreServed Pluq matrices = AreOver gf2 matrices
 AreServed command matrices = ShareField matrices
 
 -- The operands' shapes fit the command.
