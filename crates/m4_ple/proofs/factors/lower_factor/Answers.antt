@@ -11,6 +11,15 @@ use Rattle.m4_ple.specs.Parts.{below_added}
 use Rattle.m4_ple.proofs.FactorParts.{lower_made}
 use Rattle.m4_ple.proofs.factors.lower_factor.Goals as goal
 
+pub put_win-requires : goal.put_win-requires
+put_win-requires c =
+    let rect : Rect = record { r0 = 0; c0 = 0; r1 = c.rows-2.result; c1 = c.args.rank } in
+    let D = below_added (content c.win_mut-part.result.0) (shown c.narrow.result) in
+    let P : Window → Type 0 = λ w. IsAround c.win_mut-part.result.1 w rect c.in_ok-l.l in
+    record {
+      fits = record { rect = rect; matrix = c.in_ok-l.l; is = subst P (sym c.add_below_diagonal.ensures) (c.win_mut-part.ensures.whatever_it_shows D) };
+    }
+
 pub returns : goal.returns
 returns c =
     let A = shown c.args.a.now in
