@@ -8,7 +8,7 @@ use Rattle.std.proofs.lemmas.Nat.{pow-add}
 use Rattle.std.proofs.Math.Seq.{take-nil}
 use Rattle.std.proofs.Math.Pow.{pow_mono}
 use Rattle.std.proofs.lemmas.Bool.{cases_lt, cond-true, cond-false, le-leb, lt-leb}
-use Rattle.std.proofs.lemmas.List.{length-map, length-take-le, get_or-map, get_or_past, get_or-set_same}
+use Rattle.std.proofs.lemmas.List.{length-map, length-take-le, get_or-map, get_or_past}
 use Rattle.m4_model.specs.Field.{Field, IsCarried, IsElement, mul}
 use Rattle.m4_model.specs.Matrix.{Matrix, IsMatrix, row, row_sum, with_row}
 use Rattle.m4_model.specs.Shapes.{replace}

@@ -1,6 +1,6 @@
 //! The engine that multiplies over any field by an engine over GF(2).
 
-ghost use Rattle.std.specs.Prelude.{◌≡◌, ◌+◌, ◌*◌, ◌^◌, ◌≤◌, IfOk};
+ghost use Rattle.std.specs.Prelude.{◌≡◌, ◌+◌, ◌*◌, ◌≤◌, IfOk};
 ghost use Rattle.m4_model.specs.Field.{width};
 ghost use Rattle.m4_model.specs.Matrix.{added, product};
 ghost use Rattle.m4_field.specs.Fields.{the_field};
@@ -61,7 +61,7 @@ impl<M: AddMul + Drop> Newton<M> {
     /// The engine for products over this field of up to `cols` columns, over an engine for bits that can be called.
     pub fn new(alloc: Global, field: Field, cols: u32, engine: M) -> Result<Newton<M>, NoMemory>
         requires ready { M.ready engine }
-        requires few_bits { cols * width (the_field field) ≤ 2 ^ 24 }
+        requires few_bits { cols * width (the_field field) ≤ MOST_SIDE }
         requires wide { cols * width (the_field field) ≤ (M.limits engine).n }
         requires deep { 64 ≤ (M.limits engine).l }
         ensures field { IfOk result (λ n. n.field ≡ the_field field) }
@@ -102,7 +102,9 @@ impl<M: AddMul> Newton<M> {
 }
 
 impl<M: AddMul> EAddMul for Newton<M> {
-    ghost limits = { λ n. record { m = n.bits.m; l = 2 ^ 24; n = n.cols } };
+    ghost use Rattle.m4_mzd.specs.declared.TheConstants.{MOST_SIDE};
+
+    ghost limits = { λ n. record { m = n.bits.m; l = MOST_SIDE; n = n.cols } };
 
     ghost IsFor = { λ n F. F ≡ n.field };
 

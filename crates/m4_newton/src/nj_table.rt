@@ -13,7 +13,7 @@ ghost use Rattle.m4_newton.specs.NjTables.{entries_for};
 use crate::entries::put_entries;
 use m4_field::Field;
 use m4_model::NoMemory;
-use m4_mzd::{Rect, Steps};
+use m4_mzd::{MOST_SIDE, Rect, Steps};
 use m4_mzed::{EWin, EWinMut, Mzed};
 use std::alloc::Global;
 use std::marker::Model;
@@ -46,7 +46,7 @@ impl Model for NjTable {
 impl NjTable {
     /// A table for rows of up to `cols` columns over this field, filled from none.
     pub fn new(alloc: Global, field: Field, cols: u32) -> Result<NjTable, NoMemory>
-        requires few_bits { cols * width (the_field field) ≤ 2 ^ 24 }
+        requires few_bits { cols * width (the_field field) ≤ MOST_SIDE }
         ensures { IfOk result (λ t. t ≡ record { field = the_field field; cols = cols; row = [] }) }
     {
         let entries = Mzed::zeros(alloc, field, entries_of(&field), cols)?;

@@ -1,12 +1,12 @@
 //! The plain engine over any field: a product is added row by row.
 
-ghost use Rattle.std.specs.Prelude.{◌≡◌, ◌^◌, ◌<◌};
+ghost use Rattle.std.specs.Prelude.{◌≡◌, ◌<◌};
 ghost use Rattle.m4_model.specs.Matrix.{added, product, row, row_sum, with_row};
 ghost use Rattle.m4_mzed.specs.EWindow.{content, showing};
 ghost use Rattle.m4_mzed.specs.ESeen.{e_shown};
 
 use crate::add_mul::EAddMul;
-use m4_mzd::Shape;
+use m4_mzd::{MOST_SIDE, Shape};
 use m4_mzed::{EWin, EWinMut};
 
 /// The engine that adds, to each row of the window, the multiples of the rows of the second factor that the first tells. It
@@ -15,17 +15,17 @@ use m4_mzed::{EWin, EWinMut};
 pub struct EPlain;
 
 impl EAddMul for EPlain {
-    ghost use Rattle.std.specs.Prelude.{◌^◌};
+    ghost use Rattle.m4_mzd.specs.declared.TheConstants.{MOST_SIDE};
 
-    ghost limits = { λ _. record { m = 2 ^ 24; l = 2 ^ 24; n = 2 ^ 24 } };
+    ghost limits = { λ _. record { m = MOST_SIDE; l = MOST_SIDE; n = MOST_SIDE } };
 
     ghost IsFor = { λ _ _. Unit };
 
     fn reach(&self) -> Shape {
         Shape {
-            m: 1 << 24,
-            l: 1 << 24,
-            n: 1 << 24,
+            m: MOST_SIDE,
+            l: MOST_SIDE,
+            n: MOST_SIDE,
         }
     }
 

@@ -1,7 +1,6 @@
 use Rattle.std.proofs.Common.{◌≡◌, ◌^◌, ◌<◌, ◌∙◌, length, map, take, sym, ap, subst, arith}
 use Rattle.m4_model.specs.Field.{Field}
 use Rattle.m4_model.specs.Matrix.{Matrix}
-use Rattle.m4_mzed.specs.EWindow.{EWindow}
 use Rattle.m4_mzed.specs.ESeen.{e_shown}
 use Rattle.m4_newton.specs.NjTables.{Filled}
 use Rattle.m4_newton.proofs.EntryLemmas.{one_small}
