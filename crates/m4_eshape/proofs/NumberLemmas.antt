@@ -1,11 +1,10 @@
 -- Numbers that are packed in the rows of a matrix of bits, turned block by block.
-use Rattle.std.proofs.Common.{◌≡◌, ◌≢◌, ℕ, ◌+◌, ◌-◌, ◌*◌, ◌/◌, ◌%◌, ◌<◌, ◌≤◌, inl, inr, cond, List, get_or, refl, sym, ◌∙◌, ap, ap₂, subst, arith, eqb, ◌==◌, ◌||◌, IsTrue}
+use Rattle.std.proofs.Common.{◌≡◌, ◌≢◌, ℕ, ◌+◌, ◌*◌, ◌/◌, ◌%◌, ◌<◌, ◌≤◌, inl, inr, cond, List, get_or, refl, sym, ◌∙◌, ap, ap₂, subst, arith, eqb, ◌==◌, ◌||◌, IsTrue}
 use Rattle.std.specs.Prelude.{nat_lt}
 use Rattle.std.specs.Int.{bit_at}
 use Rattle.std.proofs.Math.Nat.{div-lt_iff_lt-mul, zero-div}
 use Rattle.std.proofs.lemmas.Nat.{div-add-mod', div-mul-add}
 use Rattle.std.proofs.lemmas.Bool.{cases_lt, cases_eq, cond-true, cond-false, lt-ltb, le-ltb, eq-eqb, ne_eqb}
-use Rattle.m4_model.specs.Field.{gf2}
 use Rattle.m4_model.specs.Matrix.{Matrix, IsMatrix, at, table, matrix_of}
 use Rattle.m4_model.proofs.MatrixLemmas.{at-table, same_table}
 use Rattle.m4_bits.specs.Transpose.{AreTransposed}

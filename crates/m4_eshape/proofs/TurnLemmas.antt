@@ -1,5 +1,5 @@
 -- A matrix that is turned over its diagonal, by halves and by blocks.
-use Rattle.std.proofs.Common.{◌≡◌, ℕ, ◌+◌, ◌-◌, ◌*◌, ◌/◌, ◌%◌, ◌<◌, ◌≤◌, List, [], ◌++◌, take, drop, map, refl, sym, ◌∙◌, ap, ap₂, subst, arith, mod-eq_of_lt}
+use Rattle.std.proofs.Common.{◌≡◌, ℕ, ◌+◌, ◌-◌, ◌*◌, ◌/◌, ◌%◌, ◌<◌, ◌≤◌, [], ◌++◌, take, drop, map, refl, sym, ◌∙◌, ap, ap₂, subst, arith, mod-eq_of_lt}
 use Rattle.std.specs.Int.{bit_at}
 use Rattle.std.specs.Simd.Lanes.{zip2}
 use Rattle.std.proofs.Math.Nat.{mul-add-mod_self_right, zero-mod}
@@ -12,12 +12,12 @@ use Rattle.m4_model.proofs.MatrixLemmas.{at-table}
 use Rattle.m4_mzd.specs.Window.{Window, IsWindow}
 use Rattle.m4_mzd.specs.Window.{content as bit_content, showing as bit_showing}
 use Rattle.m4_field.proofs.WidthLemmas.{width_facts}
-use Rattle.m4_mzed.specs.EWindow.{EWindow, content, showing}
+use Rattle.m4_mzed.specs.EWindow.{EWindow, showing}
 use Rattle.m4_mzed.specs.Owned.{e_matrix}
 use Rattle.m4_mzed.specs.Packed.{elements, IsPacked}
 use Rattle.m4_mzed.specs.PackedIn.{IsPackedIn}
 use Rattle.m4_mzed.proofs.EntryLemmas.{entry_element}
-use Rattle.m4_mzed.proofs.PackedSums.{Holds, next_le}
+use Rattle.m4_mzed.proofs.PackedSums.{next_le}
 use Rattle.m4_mzed.proofs.PairLemmas.{upper, lower, stacked}
 use Rattle.m4_mzed.proofs.PartLemmas.{same_window}
 use Rattle.m4_mzed.proofs.RectLemmas.{matrix_bit, made_packed, made_is}

@@ -2,7 +2,7 @@
 //! cache: the matrix is halved until a part is one block wide (Frigo, Leiserson, Prokop and Ramachandran, "Cache-oblivious
 //! algorithms", 1999; a block is turned as in Warren's "Hacker's Delight", section 7-3).
 
-ghost use Rattle.std.specs.Prelude.{◌≡◌, ◌+◌, ◌*◌, ◌/◌, ◌%◌, ◌^◌, ◌<◌, ◌≤◌, ◌==◌, ◌||◌, length, IfOk, IsTrue};
+ghost use Rattle.std.specs.Prelude.{◌≡◌, ◌+◌, ◌*◌, ◌/◌, ◌%◌, ◌<◌, ◌≤◌, ◌==◌, ◌||◌, length, IfOk, IsTrue};
 ghost use Rattle.m4_model.specs.Field.{width};
 ghost use Rattle.m4_model.specs.Shapes.{transposed};
 ghost use Rattle.m4_field.specs.Fields.{the_field};
@@ -15,7 +15,7 @@ ghost use Rattle.m4_eshape.specs.Turned.{numbers_turned};
 use m4_bits::{transpose_numbers, words_for};
 use m4_field::Field;
 use m4_model::NoMemory;
-use m4_mzd::{Win, WinMut};
+use m4_mzd::{MOST_SIDE, Win, WinMut};
 use m4_mzed::{EWin, EWinMut, Mzed};
 use m4_shape::transpose;
 use std::alloc::Global;
@@ -26,8 +26,8 @@ const STRIP: u32 = 8;
 
 /// The transpose of `a`.
 pub fn etranspose(alloc: Global, a: &EWin) -> Result<Mzed, NoMemory>
-    requires few_rows { (e_shown a.now).cols ≤ 2 ^ 24 }
-    requires few_bits { (e_shown a.now).rows * width (e_shown a.now).field ≤ 2 ^ 24 }
+    requires few_rows { (e_shown a.now).cols ≤ MOST_SIDE }
+    requires few_bits { (e_shown a.now).rows * width (e_shown a.now).field ≤ MOST_SIDE }
     ensures { IfOk result (λ m. m ≡ transposed (e_shown a.now)) }
 {
     if a.field().e() == 1 {
@@ -39,8 +39,8 @@ pub fn etranspose(alloc: Global, a: &EWin) -> Result<Mzed, NoMemory>
 
 /// The transpose, by blocks of elements.
 fn turned_by_blocks(alloc: Global, a: &EWin) -> Result<Mzed, NoMemory>
-    requires few_rows { (e_shown a.now).cols ≤ 2 ^ 24 }
-    requires few_bits { (e_shown a.now).rows * width (e_shown a.now).field ≤ 2 ^ 24 }
+    requires few_rows { (e_shown a.now).cols ≤ MOST_SIDE }
+    requires few_bits { (e_shown a.now).rows * width (e_shown a.now).field ≤ MOST_SIDE }
     ensures { IfOk result (λ m. m ≡ transposed (e_shown a.now)) }
 {
     let mut m = Mzed::zeros(alloc, a.field(), a.cols(), a.rows())?;

@@ -1,8 +1,8 @@
-use Rattle.std.proofs.Common.{◌≡◌, refl, ◌∙◌}
+use Rattle.std.proofs.Common.{refl, ◌∙◌}
 use Rattle.m4_field.specs.Fields.{the_field}
 use Rattle.m4_mzd.specs.Seen.{shown}
 use Rattle.m4_mzed.specs.ESeen.{e_shown}
-use Rattle.m4_eshape.proofs.TurnLemmas.{WereTurned, turned_packed, turned_elements}
+use Rattle.m4_eshape.proofs.TurnLemmas.{turned_packed, turned_elements}
 use Rattle.m4_eshape.proofs.turn.turn_blocks.Goals as goal
 
 pub of_packed-requires : goal.of_packed-requires

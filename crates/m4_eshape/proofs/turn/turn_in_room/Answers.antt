@@ -1,6 +1,6 @@
 use Rattle.std.proofs.Common.{arith, ◌∙◌}
 use Rattle.m4_mzd.specs.Seen.{shown}
-use Rattle.m4_eshape.proofs.NumberLemmas.{fill_words, turned_empty, turned_none, turned_more, turned_all, row_of_word, rows_of_block}
+use Rattle.m4_eshape.proofs.NumberLemmas.{fill_words, turned_empty, turned_none, turned_more, turned_all, rows_of_block}
 use Rattle.m4_eshape.proofs.turn.turn_in_room.Goals as goal
 
 pub returns-then-cols-eq0 : goal.returns-then-cols-eq0
