@@ -1,15 +1,14 @@
 -- The quarters of a window to which Winograd's sums of products were added one after another, and products over borders.
-use Rattle.std.proofs.Common.{◌≡◌, ℕ, ◌+◌, ◌-◌, ◌≤◌, List, [], ◌∷◌, take, drop, map, refl, sym, ◌∙◌, ap, ap₂, subst, arith}
+use Rattle.std.proofs.Common.{◌≡◌, ℕ, ◌+◌, ◌-◌, ◌≤◌, [], ◌∷◌, take, drop, map, refl, sym, ◌∙◌, ap, ap₂, subst, arith}
 use Rattle.m4_model.specs.Field.{gf2}
 use Rattle.m4_model.specs.Matrix.{Matrix, HasShape, added, product}
-use Rattle.m4_model.specs.Shapes.{above, beside}
-use Rattle.m4_model.specs.Recursion.{Quartered, HaveShape, winograd, s1, s2, s3, s4, t1, t2, t3, t4, u2, u3, u4}
+use Rattle.m4_model.specs.Recursion.{Quartered, HaveShape, winograd, s1, s2, s3, s4, t1, t2, t3, t4, u2, u3}
 use Rattle.m4_model.proofs.Gf2Lemmas.{gf2_laws}
 use Rattle.m4_model.proofs.ShapeLemmas.{IsField-shape, HasShape-added, HasShape-product}
 use Rattle.m4_model.proofs.RingLemmas.{added_assoc, added_comm}
 use Rattle.m4_model.proofs.BlockLemmas.{product-blocks}
 use Rattle.m4_model.proofs.WinogradLemmas.{same_summed, shape_s1, shape_s2, shape_s3, shape_s4, shape_t1, shape_t2, shape_t3, shape_t4}
-use Rattle.m4_model.proofs.XorLemmas.{Sum, term, plus}
+use Rattle.m4_model.proofs.XorLemmas.{term, plus}
 use Rattle.m4_mzd.specs.Window.{Window, content, showing}
 use Rattle.m4_mzd.proofs.BlockedLemmas.{beside_again, above_again}
 

@@ -2,7 +2,7 @@
 use Rattle.std.proofs.Common.{◌≡◌, ℕ, refl, sym, ◌∙◌, ap, ap₂}
 use Rattle.m4_model.specs.Field.{gf2}
 use Rattle.m4_model.specs.Matrix.{Matrix, HasShape, zero_matrix, added, product}
-use Rattle.m4_model.specs.Recursion.{Quartered, HaveShape, joined, winograd, s1, s2, s3, s4, t1, t2, t3, t4, u2, u3}
+use Rattle.m4_model.specs.Recursion.{Quartered, HaveShape, joined, winograd, s1, s2, s3, s4, t1, t2, t3, t4, u2}
 use Rattle.m4_model.proofs.Gf2Lemmas.{gf2_laws}
 use Rattle.m4_model.proofs.FieldLemmas.{gf2_field}
 use Rattle.m4_model.proofs.MatrixLemmas.{same_parts}

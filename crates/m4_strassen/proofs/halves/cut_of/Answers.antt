@@ -1,7 +1,6 @@
-use Rattle.std.proofs.Common.{◌≡◌, ◌+◌, ◌*◌, ◌/◌, ◌%◌, ◌<◌, ◌≤◌, ap, arith, ◌∙◌}
-use Rattle.m4_model.specs.Recursion.{half, need, products, level_words}
+use Rattle.std.proofs.Common.{◌+◌, ◌*◌, arith, ◌∙◌}
+use Rattle.m4_model.specs.Recursion.{need, products, level_words}
 use Rattle.m4_model.proofs.RecursionLemmas.{sides_cut, need-level, products-level}
-use Rattle.m4_strassen.specs.Cuts.{words_for_cut}
 use Rattle.m4_strassen.proofs.halves.cut_of.Goals as goal
 
 pub returns-clause-cut : goal.returns-clause-cut

@@ -1,10 +1,10 @@
-use Rattle.std.proofs.Common.{◌≡◌, ◌+◌, ◌-◌, ◌≤◌, refl, sym, ap, ap₂, subst, ◌∙◌, arith}
+use Rattle.std.proofs.Common.{◌≡◌, ◌+◌, ◌-◌, refl, sym, ap, ap₂, subst, ◌∙◌, arith}
 use Rattle.m4_model.specs.Matrix.{Matrix, added, product}
-use Rattle.m4_model.specs.Recursion.{products, s1, s2, s3, s4, t1, t2, t3, t4}
+use Rattle.m4_model.specs.Recursion.{products, s1, s2, s4, t1, t2, t4}
 use Rattle.m4_model.proofs.Gf2Lemmas.{gf2_laws}
 use Rattle.m4_model.proofs.RecursionLemmas.{products-whole}
 use Rattle.m4_model.proofs.WinogradLemmas.{shape_s1, shape_t1}
-use Rattle.m4_mzd.specs.Window.{Window, content, showing}
+use Rattle.m4_mzd.specs.Window.{content, showing}
 use Rattle.m4_mzd.specs.Seen.{shown}
 use Rattle.m4_mzd.proofs.PairLemmas.{upper, lower}
 use Rattle.m4_mzd.proofs.BlockedLemmas.{before, behind, cols_added, rows_added, shape_of}
@@ -109,8 +109,7 @@ add_first-returns-clause-added g t c =
     let a = c.requires.a_shape in
     let b = c.requires.b_shape in
     let is = first_shown v w a b c.requires.level c.clear.new.self c.add_by_halves.new.c c.clear.ensures c.add_by_halves.ensures.sum in
-    let quarters = first_quarter v w a b c.requires.level c.add_by_halves.new.c c.keep_first.new.c c.add_by_halves-2.new.c is c.keep_first.ensures.added c.add_by_halves-2.ensures.sum in
-    quarters
+    first_quarter v w a b c.requires.level c.add_by_halves.new.c c.keep_first.new.c c.add_by_halves-2.new.c is c.keep_first.ensures.added c.add_by_halves-2.ensures.sum
 
 pub add_first-returns-clause-level : goal.add_first-returns-clause-level
 add_first-returns-clause-level g t c =
@@ -119,61 +118,34 @@ add_first-returns-clause-level g t c =
     let a = c.requires.a_shape in
     let b = c.requires.b_shape in
     let is = first_shown v w a b c.requires.level c.clear.new.self c.add_by_halves.new.c c.clear.ensures c.add_by_halves.ensures.sum in
-    let shows = first_level v w a b c.requires.level c.add_by_halves.new.c c.keep_first.new.level c.set_fifth.new.level c.add_by_halves-3.new.c is
+    first_level v w a b c.requires.level c.add_by_halves.new.c c.keep_first.new.level c.set_fifth.new.level c.add_by_halves-3.new.c is
     c.keep_first.ensures.kept c.set_fifth.ensures
     (c.add_by_halves-3.ensures.sum
-    ∙ ap (λ (X : Matrix). showing c.set_fifth.new.level.p (added (content c.set_fifth.new.level.p) X)) (ap₂ product c.see.ensures c.see-2.ensures)) in
-    shows
+    ∙ ap (λ (X : Matrix). showing c.set_fifth.new.level.p (added (content c.set_fifth.new.level.p) X)) (ap₂ product c.see.ensures c.see-2.ensures))
 
 pub add_first-returns-clause-s_shows : goal.add_first-returns-clause-s_shows
 add_first-returns-clause-s_shows g t c =
-    let v = c.args.level.now in
-    let w = c.args.c.now in
-    let a = c.requires.a_shape in
-    let b = c.requires.b_shape in
-    let is = first_shown v w a b c.requires.level c.clear.new.self c.add_by_halves.new.c c.clear.ensures c.add_by_halves.ensures.sum in
-    let shows = first_level v w a b c.requires.level c.add_by_halves.new.c c.keep_first.new.level c.set_fifth.new.level c.add_by_halves-3.new.c is
-    c.keep_first.ensures.kept c.set_fifth.ensures
-    (c.add_by_halves-3.ensures.sum
-    ∙ ap (λ (X : Matrix). showing c.set_fifth.new.level.p (added (content c.set_fifth.new.level.p) X)) (ap₂ product c.see.ensures c.see-2.ensures)) in
-    ap (λ (x : Level). content x.s) shows ∙ content_showing v.s (shape_s1 gf2_laws a b) c.requires.level.s_rows c.requires.level.s_cols
+    ap (λ (x : Level). content x.s) (add_first-returns-clause-level g t c)
+    ∙ content_showing c.args.level.now.s (shape_s1 gf2_laws c.requires.a_shape c.requires.b_shape) c.requires.level.s_rows c.requires.level.s_cols
 
 pub add_first-returns-clause-t_shows : goal.add_first-returns-clause-t_shows
 add_first-returns-clause-t_shows g t c =
-    let v = c.args.level.now in
-    let w = c.args.c.now in
-    let a = c.requires.a_shape in
-    let b = c.requires.b_shape in
-    let is = first_shown v w a b c.requires.level c.clear.new.self c.add_by_halves.new.c c.clear.ensures c.add_by_halves.ensures.sum in
-    let shows = first_level v w a b c.requires.level c.add_by_halves.new.c c.keep_first.new.level c.set_fifth.new.level c.add_by_halves-3.new.c is
-    c.keep_first.ensures.kept c.set_fifth.ensures
-    (c.add_by_halves-3.ensures.sum
-    ∙ ap (λ (X : Matrix). showing c.set_fifth.new.level.p (added (content c.set_fifth.new.level.p) X)) (ap₂ product c.see.ensures c.see-2.ensures)) in
-    ap (λ (x : Level). content x.t) shows ∙ content_showing v.t (shape_t1 gf2_laws a b) c.requires.level.t_rows c.requires.level.t_cols
+    ap (λ (x : Level). content x.t) (add_first-returns-clause-level g t c)
+    ∙ content_showing c.args.level.now.t (shape_t1 gf2_laws c.requires.a_shape c.requires.b_shape) c.requires.level.t_rows c.requires.level.t_cols
 
 pub add_first-returns-clause-level_sides : goal.add_first-returns-clause-level_sides
 add_first-returns-clause-level_sides g t c =
-    let v = c.args.level.now in
-    let w = c.args.c.now in
-    let a = c.requires.a_shape in
-    let b = c.requires.b_shape in
-    let is = first_shown v w a b c.requires.level c.clear.new.self c.add_by_halves.new.c c.clear.ensures c.add_by_halves.ensures.sum in
-    let shows = first_level v w a b c.requires.level c.add_by_halves.new.c c.keep_first.new.level c.set_fifth.new.level c.add_by_halves-3.new.c is
-    c.keep_first.ensures.kept c.set_fifth.ensures
-    (c.add_by_halves-3.ensures.sum
-    ∙ ap (λ (X : Matrix). showing c.set_fifth.new.level.p (added (content c.set_fifth.new.level.p) X)) (ap₂ product c.see.ensures c.see-2.ensures)) in
-    subst (IsLevel c.args.cut.m c.args.cut.l c.args.cut.n) (sym shows) (level_kept c.requires.level (s1 (read c.args.a.now)) (t1 (read c.args.b.now)) (product (s1 (read c.args.a.now)) (t1 (read c.args.b.now))) (product (read c.args.a.now).top_left (read c.args.b.now).top_left))
+    let A = read c.args.a.now in
+    let B = read c.args.b.now in
+    subst (IsLevel c.args.cut.m c.args.cut.l c.args.cut.n) (sym (add_first-returns-clause-level g t c)) (level_kept c.requires.level (s1 A) (t1 B) (product (s1 A) (t1 B)) (product A.top_left B.top_left))
 
 pub add_first-returns-clause-c_sides : goal.add_first-returns-clause-c_sides
 add_first-returns-clause-c_sides g t c =
-    let v = c.args.level.now in
     let w = c.args.c.now in
-    let a = c.requires.a_shape in
-    let b = c.requires.b_shape in
-    let is = first_shown v w a b c.requires.level c.clear.new.self c.add_by_halves.new.c c.clear.ensures c.add_by_halves.ensures.sum in
-    let quarters = first_quarter v w a b c.requires.level c.add_by_halves.new.c c.keep_first.new.c c.add_by_halves-2.new.c is c.keep_first.ensures.added c.add_by_halves-2.ensures.sum in
-    subst (HaveSides c.args.cut.m c.args.cut.n) (sym quarters) (quarters_kept c.requires.c_sides (record (contents w) {
-      top_left = added (added (content w.top_left) (product (read c.args.a.now).top_left (read c.args.b.now).top_left)) (product (read c.args.a.now).top_right (read c.args.b.now).bottom_left);
+    let A = read c.args.a.now in
+    let B = read c.args.b.now in
+    subst (HaveSides c.args.cut.m c.args.cut.n) (sym (add_first-returns-clause-added g t c)) (quarters_kept c.requires.c_sides (record (contents w) {
+      top_left = added (added (content w.top_left) (product A.top_left B.top_left)) (product A.top_right B.bottom_left);
     }))
 
 -- the sixth, the third and the fourth product
@@ -185,61 +157,37 @@ pub add_middle-set_third_and_fourth-requires-clause-t_shows : goal.add_middle-se
 add_middle-set_third_and_fourth-requires-clause-t_shows g t c =
     sixth_shown_too c.args.level.now c.args.c.now c.requires.a_shape c.requires.b_shape c.requires.level c.set_sixth.new.level c.set_sixth.ensures
 
+pub add_middle-returns-clause-level : goal.add_middle-returns-clause-level
+add_middle-returns-clause-level g t c =
+    let v1 = c.set_sixth.new.level in
+    middle_level c.args.level.now c.args.c.now c.requires.a_shape c.requires.b_shape c.requires.level v1 c.add_by_halves.new.c c.set_third_and_fourth.new.level c.set_sixth.ensures
+    (c.add_by_halves.ensures.sum ∙ ap (λ (X : Matrix). showing v1.u (added (content v1.u) X)) (ap₂ product c.see.ensures c.see-2.ensures))
+    c.set_third_and_fourth.ensures
+
 pub add_middle-returns-clause-added : goal.add_middle-returns-clause-added
 add_middle-returns-clause-added g t c =
     let v = c.args.level.now in
     let w = c.args.c.now in
-    let a = c.requires.a_shape in
-    let b = c.requires.b_shape in
-    let v1 = c.set_sixth.new.level in
-    let shows = middle_level v w a b c.requires.level v1 c.add_by_halves.new.c c.set_third_and_fourth.new.level c.set_sixth.ensures
-    (c.add_by_halves.ensures.sum ∙ ap (λ (X : Matrix). showing v1.u (added (content v1.u) X)) (ap₂ product c.see.ensures c.see-2.ensures))
-    c.set_third_and_fourth.ensures in
-    let quarters = middle_quarters v w a b c.requires.level c.set_third_and_fourth.new.level (added (content v.u) (product (s2 (read c.args.a.now)) (t2 (read c.args.b.now)))) c.add_by_halves-2.new.c c.add_by_halves-3.new.c shows
+    middle_quarters v w c.requires.a_shape c.requires.b_shape c.requires.level c.set_third_and_fourth.new.level (added (content v.u) (product (s2 (read c.args.a.now)) (t2 (read c.args.b.now)))) c.add_by_halves-2.new.c c.add_by_halves-3.new.c
+    (add_middle-returns-clause-level g t c)
     (c.add_by_halves-2.ensures.sum ∙ ap (λ (X : Matrix). showing w.top_right (added (content w.top_right) (product X (shown c.args.b.now.bottom_right)))) c.see-3.ensures)
-    (c.add_by_halves-3.ensures.sum ∙ ap (λ (X : Matrix). showing w.bottom_left (added (content w.bottom_left) (product (shown c.args.a.now.bottom_right) X))) c.see-4.ensures) in
-    quarters
-
-pub add_middle-returns-clause-level : goal.add_middle-returns-clause-level
-add_middle-returns-clause-level g t c =
-    let v = c.args.level.now in
-    let w = c.args.c.now in
-    let a = c.requires.a_shape in
-    let b = c.requires.b_shape in
-    let v1 = c.set_sixth.new.level in
-    let shows = middle_level v w a b c.requires.level v1 c.add_by_halves.new.c c.set_third_and_fourth.new.level c.set_sixth.ensures
-    (c.add_by_halves.ensures.sum ∙ ap (λ (X : Matrix). showing v1.u (added (content v1.u) X)) (ap₂ product c.see.ensures c.see-2.ensures))
-    c.set_third_and_fourth.ensures in
-    shows
+    (c.add_by_halves-3.ensures.sum ∙ ap (λ (X : Matrix). showing w.bottom_left (added (content w.bottom_left) (product (shown c.args.a.now.bottom_right) X))) c.see-4.ensures)
 
 pub add_middle-returns-clause-level_sides : goal.add_middle-returns-clause-level_sides
 add_middle-returns-clause-level_sides g t c =
     let v = c.args.level.now in
-    let w = c.args.c.now in
-    let a = c.requires.a_shape in
-    let b = c.requires.b_shape in
-    let v1 = c.set_sixth.new.level in
-    let shows = middle_level v w a b c.requires.level v1 c.add_by_halves.new.c c.set_third_and_fourth.new.level c.set_sixth.ensures
-    (c.add_by_halves.ensures.sum ∙ ap (λ (X : Matrix). showing v1.u (added (content v1.u) X)) (ap₂ product c.see.ensures c.see-2.ensures))
-    c.set_third_and_fourth.ensures in
-    subst (IsLevel c.args.cut.m c.args.cut.l c.args.cut.n) (sym shows) (level_kept c.requires.level (s4 (read c.args.a.now)) (t4 (read c.args.b.now)) (content v.p) (added (content v.u) (product (s2 (read c.args.a.now)) (t2 (read c.args.b.now)))))
+    let A = read c.args.a.now in
+    let B = read c.args.b.now in
+    subst (IsLevel c.args.cut.m c.args.cut.l c.args.cut.n) (sym (add_middle-returns-clause-level g t c)) (level_kept c.requires.level (s4 A) (t4 B) (content v.p) (added (content v.u) (product (s2 A) (t2 B))))
 
 pub add_middle-returns-clause-c_sides : goal.add_middle-returns-clause-c_sides
 add_middle-returns-clause-c_sides g t c =
-    let v = c.args.level.now in
     let w = c.args.c.now in
-    let a = c.requires.a_shape in
-    let b = c.requires.b_shape in
-    let v1 = c.set_sixth.new.level in
-    let shows = middle_level v w a b c.requires.level v1 c.add_by_halves.new.c c.set_third_and_fourth.new.level c.set_sixth.ensures
-    (c.add_by_halves.ensures.sum ∙ ap (λ (X : Matrix). showing v1.u (added (content v1.u) X)) (ap₂ product c.see.ensures c.see-2.ensures))
-    c.set_third_and_fourth.ensures in
-    let quarters = middle_quarters v w a b c.requires.level c.set_third_and_fourth.new.level (added (content v.u) (product (s2 (read c.args.a.now)) (t2 (read c.args.b.now)))) c.add_by_halves-2.new.c c.add_by_halves-3.new.c shows
-    (c.add_by_halves-2.ensures.sum ∙ ap (λ (X : Matrix). showing w.top_right (added (content w.top_right) (product X (shown c.args.b.now.bottom_right)))) c.see-3.ensures)
-    (c.add_by_halves-3.ensures.sum ∙ ap (λ (X : Matrix). showing w.bottom_left (added (content w.bottom_left) (product (shown c.args.a.now.bottom_right) X))) c.see-4.ensures) in
-    subst (HaveSides c.args.cut.m c.args.cut.n) (sym quarters) (quarters_kept c.requires.c_sides (record (contents w) {
-      top_right = added (content w.top_right) (product (s4 (read c.args.a.now)) (read c.args.b.now).bottom_right);
-      bottom_left = added (content w.bottom_left) (product (read c.args.a.now).bottom_right (t4 (read c.args.b.now)));
+    let A = read c.args.a.now in
+    let B = read c.args.b.now in
+    subst (HaveSides c.args.cut.m c.args.cut.n) (sym (add_middle-returns-clause-added g t c)) (quarters_kept c.requires.c_sides (record (contents w) {
+      top_right = added (content w.top_right) (product (s4 A) B.bottom_right);
+      bottom_left = added (content w.bottom_left) (product A.bottom_right (t4 B));
     }))
 
 -- the seventh product

@@ -1,4 +1,4 @@
-use Rattle.std.proofs.Common.{◌≡◌, ◌+◌, ◌*◌, ◌/◌, ◌≤◌, ap, sym, arith, ◌∙◌}
+use Rattle.std.proofs.Common.{◌+◌, ap, sym, arith, ◌∙◌}
 use Rattle.m4_model.specs.Recursion.{level_words}
 use Rattle.m4_model.proofs.RecursionLemmas.{no_level}
 use Rattle.m4_strassen.proofs.RoomLemmas.{quarter_sides}

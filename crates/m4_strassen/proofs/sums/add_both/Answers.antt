@@ -1,4 +1,4 @@
-use Rattle.std.proofs.Common.{◌≡◌, length, refl, sym, ap, arith, bit_xor, ◌∙◌}
+use Rattle.std.proofs.Common.{◌≡◌, length, refl, ap, arith, bit_xor, ◌∙◌}
 use Rattle.m4_model.specs.Matrix.{row, at, row_sum, added}
 use Rattle.m4_model.proofs.MatrixLemmas.{length-table}
 use Rattle.m4_model.proofs.ShapeLemmas.{HasShape-own, HasShape-added}

@@ -1,8 +1,6 @@
-use Rattle.std.proofs.Common.{◌≡◌, length, refl, sym, ap, arith, bit_xor, ◌∙◌}
+use Rattle.std.proofs.Common.{◌≡◌, length, refl, sym, arith, bit_xor, ◌∙◌}
 use Rattle.m4_model.specs.Matrix.{row, at, row_sum, added}
 use Rattle.m4_model.proofs.MatrixLemmas.{length-table}
-use Rattle.m4_model.proofs.ShapeLemmas.{HasShape-own, HasShape-added}
-use Rattle.m4_mzd.specs.Window.{content}
 use Rattle.m4_mzd.specs.Seen.{shown}
 use Rattle.m4_mzd.proofs.PairLemmas.{copied_all}
 use Rattle.m4_mzd.proofs.PlaceLemmas.{row_step}

@@ -1,6 +1,5 @@
 use Rattle.std.proofs.Common.{◌≡◌}
 use Rattle.m4_model.specs.Matrix.{added}
-use Rattle.m4_mzd.specs.Window.{content}
 use Rattle.m4_mzd.specs.Seen.{shown}
 use Rattle.m4_mzd.proofs.PairLemmas.{copied}
 use Rattle.m4_strassen.proofs.sums.set_sum.Given as goal
