@@ -1,18 +1,12 @@
 -- From each step of a run to the next: what a started file gives of an operand, this of the operands, and these of the job.
-use Rattle.std.proofs.Common.{◌≡◌, ℕ, ◌+◌, ◌^◌, ◌<◌, List, [], ◌∷◌, ◌++◌, length, map, get_or, take, drop, Option, Some, refl, sym, ◌∙◌, subst, arith, inl, inr, ap, append-nil}
-use Rattle.std.specs.List.{All}
+use Rattle.std.proofs.Common.{◌≡◌, ℕ, ◌+◌, ◌<◌, List, [], ◌∷◌, ◌++◌, length, map, get_or, take, drop, Option, Some, refl, sym, ◌∙◌, subst, arith, inl, inr, ap}
 use Rattle.std.proofs.lemmas.List.{drop_more, take_more, take-append-drop, length-take-le, length-map, get_or-map}
-use Rattle.std.proofs.lemmas.List.Elements.{All-append, All-cons, All-nil}
 use Rattle.m4_model.specs.Matrix.{Matrix}
-use Rattle.m4_model.specs.Field.{gf2}
 use Rattle.m4_model.specs.Headed.{Fault, BadAt, BadDegreeAt, ReducibleAt, PastLimit}
 use Rattle.m4_model.specs.FormTexts.{ReadsAs, RefusalAs}
 use Rattle.m4_model.specs.Words.{Job, form_of_files, form_of_answer}
-use Rattle.m4_model.specs.Outcome.{Stock, bytes_of, Accepted, AreServed, Fits, Answer, HasAnswer, status_of}
-use Rattle.m4_model.specs.declared.command.Command.{Command}
-use Rattle.m4_model.specs.declared.command.Command.TheVariants.{Mul, Addmul, Add, Transpose, Stack, Augment, Sub, Convert, Rank, Echelon, Inverse, Solve, Kernel, Ple, Pluq}
+use Rattle.m4_model.specs.Outcome.{Stock, bytes_of, Accepted, Answer, status_of}
 use Rattle.m4_model.specs.declared.choices.Form.{Form}
-use Rattle.m4_model.specs.declared.choices.Form.TheVariants.{Headed, Bare, Jcf, Hex}
 use Rattle.m4_field.specs.declared.field.FieldFault.TheVariants.{BadDegree, Reducible}
 use Rattle.m4_io.specs.Outside.{Rose, Starts}
 use Rattle.m4_etext.specs.declared.fault.TextFault.TheVariants.{Bad, Field, Limit, NoMemory}
@@ -20,7 +14,7 @@ use Rattle.m4_cmd.specs.Files.{FileFails, operand_fault}
 use Rattle.m4_cmd.specs.Run.{Change}
 use Rattle.m4_cmd.specs.declared.files.FileFault.{FileFault}
 use Rattle.m4_cmd.specs.declared.files.FileFault.TheVariants as file_faults
-use Rattle.m4_cmd.specs.Steps.{IsOperand, IsBinary, AreOverBits, IsComputed, ComputingFails, IsReadAs, IsRefusedWith, OperandFails, AreReadAs, OperandsFail, operand_status, AnswerFails, answer_status, NoReadFailed, NothingWritten, Wrote, OutputFails, output_status, IsJobAnswer, JobGives}
+use Rattle.m4_cmd.specs.Steps.{IsReadAs, IsRefusedWith, OperandFails, AreReadAs, OperandsFail, operand_status, AnswerFails, answer_status, NoReadFailed, NothingWritten, Wrote, OutputFails, output_status, IsJobAnswer, JobGives}
 use Rattle.m4_cmd.specs.declared.operands.OperandFault.{OperandFault}
 use Rattle.m4_cmd.specs.declared.operands.OperandFault.TheVariants as operand_faults
 use Rattle.m4_cmd.specs.declared.answer.AnswerFault.{AnswerFault}
@@ -51,55 +45,6 @@ fails_as_file told form name number rest before mid now (file_faults.Refused (Fi
 fails_as_file told form name number rest before mid now (file_faults.Refused Limit) starts same fails =
     (fails.0 ∙ same, refused_as_file told form name rest PastLimit starts fails.1)
 fails_as_file told form name number rest before mid now (file_faults.Refused NoMemory) starts same fails = fails.0 ∙ same
-
--- what is read is an operand
-pub reads_operand : (form : Form) (bytes : List ℕ) (M : Matrix) → ReadsAs form bytes M → IsOperand M
-reads_operand Headed bytes M reads = record { few_cols = reads.accepted.limits.cols }
-reads_operand Bare bytes M reads = record { few_cols = reads.accepted.limits.cols }
-reads_operand Jcf bytes M reads = record { few_cols = reads.accepted.limits.cols }
-reads_operand Hex bytes M reads = record { few_cols = reads.accepted.limits.cols }
-
--- the operands of a command that is computed
-pub binary_operands : (Ms : List Matrix) → All IsOperand Ms → AreOverBits Ms → All IsBinary Ms
-binary_operands Ms are over = λ k d below. record { over_gf2 = over k d below; few_cols = (are k d below).few_cols }
-
--- one more matrix over GF(2)
-pub over_bits_more : (Ms : List Matrix) (i : ℕ) (d : Matrix) → i < length Ms → AreOverBits (take i Ms) → (get_or Ms i d).field ≡ gf2 → AreOverBits (take (i + 1) Ms)
-over_bits_more Ms i d below are is =
-    let P : Matrix → Type 0 = λ M. M.field ≡ gf2 in
-    subst (All P) (sym (take_more Ms i d below)) (All-append P (take i Ms) (get_or Ms i d ∷ []) are (All-cons P (get_or Ms i d) [] is (All-nil P)))
-
--- a command that is there for fields of which one isn't GF(2) is the one that is there for all
-pub served_otherwise : (command : Command) (Ms : List Matrix) → AreServed command Ms → (AreOverBits Ms → ⊥) → command ≡ Convert
-served_otherwise Convert Ms served other = refl
-served_otherwise Mul Ms served other = absurd (other served)
-served_otherwise (Addmul row col) Ms served other = absurd (other served)
-served_otherwise Add Ms served other = absurd (other served)
-served_otherwise Transpose Ms served other = absurd (other served)
-served_otherwise Stack Ms served other = absurd (other served)
-served_otherwise Augment Ms served other = absurd (other served)
-served_otherwise (Sub row col row_end col_end) Ms served other = absurd (other served)
-served_otherwise Rank Ms served other = absurd (other served)
-served_otherwise Echelon Ms served other = absurd (other served)
-served_otherwise Inverse Ms served other = absurd (other served)
-served_otherwise Solve Ms served other = absurd (other served)
-served_otherwise Kernel Ms served other = absurd (other served)
-served_otherwise Ple Ms served other = absurd (other served)
-served_otherwise Pluq Ms served other = absurd (other served)
-
--- the answer of that one
-pub converted_answer : (A : Matrix) (others : List Matrix) (answer : Answer) → others ≡ [] → answer ≡ Answer.OneMatrix A → HasAnswer Convert (A ∷ others) answer
-converted_answer A [] answer none is = record { served = tt; fits = tt; bounds = tt; is = is }
-converted_answer A (B ∷ others) answer none is = absurd cc
-
--- an answer that is computed, and why one isn't
-pub computed_answer : (command : Command) (Ms : List Matrix) (answer : Answer) → AreServed command Ms → IsComputed command Ms answer → HasAnswer command Ms answer
-computed_answer command Ms answer served is = record { served = served; fits = is.fits; bounds = is.bounds; is = is.is }
-
-pub computing_fails : (command : Command) (Ms : List Matrix) (fault : AnswerFault) → AreServed command Ms → ComputingFails command Ms fault → AnswerFails command Ms fault
-computing_fails command Ms answer_faults.Shape served fails = λ _ fits. fails fits
-computing_fails command Ms answer_faults.Limit served fails = record { served = served; fits = fails.fits; large = fails.large }
-computing_fails command Ms answer_faults.NoMemory served fails = tt
 
 -- one more file that is accepted, behind those that are
 accepted_more : (files : Stock) (form : Form) (names : List (List ℕ)) (Ms : List Matrix) (name : List ℕ) (M : Matrix) → Accepted files form names Ms
@@ -170,10 +115,6 @@ module _ {X : Type 0} (name_of : X → List ℕ) (files_named : List X) (i : ℕ
       subst (λ ns. OperandsFail told form ns before now fault) split
       (operand_fails told form (take i names) name (drop (i + 1) names) Ms (i + 1) before mid now fault read (ap (λ n. n + 1) (length-take-le i names (omega (arith, inside)))) same
       (subst P same_stock fails))
-
--- one more operand, behind those that are
-pub operands_more : (Ms all : List Matrix) (M : Matrix) → all ≡ Ms ++ M ∷ [] → All IsOperand Ms → IsOperand M → All IsOperand all
-operands_more Ms all M pushed are is = subst (All IsOperand) (sym pushed) (All-append IsOperand Ms (M ∷ []) are (All-cons IsOperand M [] is (All-nil IsOperand)))
 
 -- how a job ends, whatever stands outside
 module _ (told : Option Stock) (asked : Job) (change : Change) where

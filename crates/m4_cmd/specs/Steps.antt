@@ -1,13 +1,12 @@
 -- What the steps of a run give: the operands, the command's answer, its writing, and the job; and why a step fails, by cases on
 -- its faults.
-use Rattle.std.specs.Prelude.{◌≡◌, ℕ, ◌≤◌, ◌⊎◌, List, All, Option, Some, Ok, Err}
+use Rattle.std.specs.Prelude.{◌≡◌, ℕ, ◌⊎◌, List, Option, Some, Ok, Err}
 use Rattle.std.specs.Io.KnownBytes.{Appends}
-use Rattle.m4_model.specs.Field.{gf2}
 use Rattle.m4_model.specs.Matrix.{Matrix}
 use Rattle.m4_model.specs.Headed.{Fault, PastLimit}
 use Rattle.m4_model.specs.FormTexts.{ReadsAs, RefusalAs}
 use Rattle.m4_model.specs.Words.{Job, job, form_of_files, form_of_answer}
-use Rattle.m4_model.specs.Outcome.{Stock, bytes_of, Accepted, FirstRefused, FirstMissing, AreServed, Fits, InBounds, Answer, IsAnswer, HasAnswer, IsFaultAt, status_of, can_hold_answer, text_of_answer}
+use Rattle.m4_model.specs.Outcome.{Stock, bytes_of, Accepted, FirstRefused, FirstMissing, AreServed, Fits, InBounds, Answer, HasAnswer, IsFaultAt, status_of, can_hold_answer, text_of_answer}
 use Rattle.m4_model.specs.declared.choices.Form.{Form}
 use Rattle.m4_model.specs.declared.command.Command.{Command}
 use Rattle.m4_model.specs.declared.status.Status.{Status}
@@ -20,19 +19,6 @@ use Rattle.m4_cmd.specs.declared.answer.AnswerFault.{AnswerFault}
 use Rattle.m4_cmd.specs.declared.answer.AnswerFault.TheVariants as answer_faults
 use Rattle.m4_cmd.specs.declared.output.OutputFault.{OutputFault}
 use Rattle.m4_cmd.specs.declared.output.OutputFault.TheVariants as output_faults
-
--- What is known of a matrix that was read: it has no more columns than the limits let it have.
-pub record IsOperand (M : Matrix) : Type 0 where
-  pub few_cols : M.cols ≤ 65536
-
--- The matrices are over GF(2).
-abbrev pub AreOverBits : List Matrix → Type 0
-AreOverBits matrices = All (λ A. A.field ≡ gf2) matrices
-
--- What is known of an operand of a command that is computed.
-pub record IsBinary (M : Matrix) : Type 0 where
-  pub over_gf2 : M.field ≡ gf2
-  pub few_cols : M.cols ≤ 65536
 
 -- Where the files are told, the one of this name is there, and is read in this form as M.
 abbrev pub IsReadAs : Option Stock → Form → List ℕ → Matrix → Type 0
@@ -82,23 +68,6 @@ operand_status operand_faults.Read = Read
 operand_status (operand_faults.Bad operand place) = Text operand place
 operand_status operand_faults.Limit = Limit
 operand_status operand_faults.NoMemory = Memory
-
--- The operands' shapes fit, and the shape of the command's answer passes a limit.
-pub record ExceedsBounds (command : Command) (Ms : List Matrix) : Type 0 where
-  pub fits : Fits command Ms
-  pub large : InBounds command Ms → ⊥
-
--- The operands' shapes fit, the answer's is within the limits, and this is the answer.
-pub record IsComputed (command : Command) (Ms : List Matrix) (answer : Answer) : Type 0 where
-  pub fits : Fits command Ms
-  pub bounds : InBounds command Ms
-  pub is : IsAnswer command Ms answer
-
--- Why the answer isn't computed.
-abbrev pub ComputingFails : Command → List Matrix → AnswerFault → Type 0
-ComputingFails command Ms answer_faults.Shape = Fits command Ms → ⊥
-ComputingFails command Ms answer_faults.Limit = ExceedsBounds command Ms
-ComputingFails command Ms answer_faults.NoMemory = Unit {0}
 
 -- The operands' fields and shapes fit, and the shape of the command's answer passes a limit.
 pub record PassesBounds (command : Command) (Ms : List Matrix) : Type 0 where

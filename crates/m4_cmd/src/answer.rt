@@ -1,13 +1,13 @@
 //! What a command answers, or why it has no answer.
 
-ghost use Rattle.std.specs.Prelude.{◌≡◌, IfOk, IfErr, All};
+ghost use Rattle.std.specs.Prelude.{◌≡◌, IfOk, IfErr};
 ghost use Rattle.m4_model.specs.Outcome.{HasAnswer, status_of};
 ghost use Rattle.m4_cmd.specs.Answer.{answer_told};
-ghost use Rattle.m4_cmd.specs.Steps.{AnswerFails, IsOperand, answer_status};
+ghost use Rattle.m4_cmd.specs.Steps.{AnswerFails, answer_status};
 
 use crate::bounds::in_known_bounds;
-use crate::compute::{compute, converted};
-use crate::fits::{are_over_bits, fits, is_served};
+use crate::compute::compute;
+use crate::fits::{fits, is_served};
 use m4_dense::{How, Mzed, PleFactors, PluqFactors};
 use m4_model::{Command, NoMemory, Status};
 use std::alloc::Global;
@@ -75,15 +75,14 @@ impl From<NoMemory> for AnswerFault {
     }
 }
 
-/// The answer of a command to these operands: where the command is there for their fields, their shapes fit, and the answer's is
-/// within the limits. The first operand is taken.
+/// The answer of a command to these operands: where they are over one field that has the command, their shapes fit, and the answer's
+/// is within the limits. The first operand is taken.
 pub(crate) fn answer_of(
     alloc: Global,
     command: Command,
     how: How,
     operands: &mut [Mzed],
 ) -> Result<Answer, AnswerFault>
-    requires operands { All IsOperand operands.old }
     ensures good { IfOk result (λ answer. HasAnswer command operands.old (answer_told answer)) }
     ensures fails { IfErr result (AnswerFails command operands.old) }
 {
@@ -93,9 +92,5 @@ pub(crate) fn answer_of(
     if !in_known_bounds(command, operands) {
         return Err(AnswerFault::Limit);
     }
-    if are_over_bits(operands) {
-        compute(alloc, command, how, operands)
-    } else {
-        Ok(converted(alloc, operands))
-    }
+    compute(alloc, command, how, operands)
 }

@@ -1,10 +1,9 @@
 //! The answer of a command to operands that fit it.
 
-ghost use Rattle.std.specs.Prelude.{◌≡◌, IfOk, IfErr, All, [], ◌∷◌};
-ghost use Rattle.m4_model.specs.Outcome.{Fits, InKnownBounds, HasAnswer};
-ghost use Rattle.m4_model.specs.declared.command.Command.TheVariants.{Convert};
+ghost use Rattle.std.specs.Prelude.{◌≡◌, IfOk, IfErr, [], ◌∷◌};
+ghost use Rattle.m4_model.specs.Outcome.{AreServed, Fits, InKnownBounds, HasAnswer};
 ghost use Rattle.m4_cmd.specs.Answer.{answer_told};
-ghost use Rattle.m4_cmd.specs.Steps.{ComputingFails, IsBinary, IsComputed};
+ghost use Rattle.m4_cmd.specs.Steps.{AnswerFails};
 
 use crate::answer::{Answer, AnswerFault};
 use crate::systems::{basis_of, inverse_of, solution_of};
@@ -16,19 +15,19 @@ use m4_model::Command;
 use std::alloc::Global;
 use std::mem;
 
-/// The answer of a command to operands over GF(2) whose shapes fit it, and for which the answer's shape, where these tell it, is within
-/// the limits. The first operand is taken.
+/// The answer of a command to operands over a field that has it, whose shapes fit it, and for which the answer's shape, where these
+/// tell it, is within the limits. The first operand is taken.
 pub(crate) fn compute(
     alloc: Global,
     command: Command,
     how: How,
     operands: &mut [Mzed],
 ) -> Result<Answer, AnswerFault>
+    requires served { AreServed command operands.old }
     requires fits { Fits command operands.old }
     requires bounds { InKnownBounds command operands.old }
-    requires operands { All IsBinary operands.old }
-    ensures good { IfOk result (λ answer. IsComputed command operands.old (answer_told answer)) }
-    ensures fails { IfErr result (ComputingFails command operands.old) }
+    ensures good { IfOk result (λ answer. HasAnswer command operands.old (answer_told answer)) }
+    ensures fails { IfErr result (AnswerFails command operands.old) }
 {
     match operands.split_first_mut() {
         Some((first, others)) => of_some(alloc, command, how, first, others),
@@ -44,12 +43,11 @@ fn of_some(
     first: &mut Mzed,
     others: &[Mzed],
 ) -> Result<Answer, AnswerFault>
+    requires served { AreServed command (first.old ∷ others.now) }
     requires fits { Fits command (first.old ∷ others.now) }
     requires bounds { InKnownBounds command (first.old ∷ others.now) }
-    requires first { IsBinary first.old }
-    requires others { All IsBinary others.now }
-    ensures good { IfOk result (λ answer. IsComputed command (first.old ∷ others.now) (answer_told answer)) }
-    ensures fails { IfErr result (ComputingFails command (first.old ∷ others.now)) }
+    ensures good { IfOk result (λ answer. HasAnswer command (first.old ∷ others.now) (answer_told answer)) }
+    ensures fails { IfErr result (AnswerFails command (first.old ∷ others.now)) }
 {
     match (command, others) {
         (command, []) => of_one(alloc, command, how, first),
@@ -58,28 +56,6 @@ fn of_some(
             add_product(alloc, how, first, (row, col), a, b)?;
             Ok(Answer::Matrix(taken(alloc, first)))
         }
-        _ => unreachable!(),
-    }
-}
-
-/// The matrix itself, over any field, which is taken.
-pub(crate) fn converted(alloc: Global, operands: &mut [Mzed]) -> Answer
-    requires { Fits Convert operands.old }
-    ensures { HasAnswer Convert operands.old (answer_told result) }
-{
-    match operands.split_first_mut() {
-        Some((first, others)) => converted_alone(alloc, first, others),
-        None => unreachable!(),
-    }
-}
-
-/// The only operand, which is taken.
-fn converted_alone(alloc: Global, first: &mut Mzed, others: &[Mzed]) -> Answer
-    requires { Fits Convert (first.old ∷ others.now) }
-    ensures { HasAnswer Convert (first.old ∷ others.now) (answer_told result) }
-{
-    match others {
-        [] => Answer::Matrix(taken(alloc, first)),
         _ => unreachable!(),
     }
 }
@@ -93,12 +69,13 @@ fn taken(alloc: Global, matrix: &mut Mzed) -> Mzed
 
 /// The answer of a command to one operand, which is taken.
 fn of_one(alloc: Global, command: Command, how: How, a: &mut Mzed) -> Result<Answer, AnswerFault>
+    requires served { AreServed command (a.old ∷ []) }
     requires fits { Fits command (a.old ∷ []) }
     requires bounds { InKnownBounds command (a.old ∷ []) }
-    requires operand { IsBinary a.old }
-    ensures good { IfOk result (λ answer. IsComputed command (a.old ∷ []) (answer_told answer)) }
-    ensures fails { IfErr result (ComputingFails command (a.old ∷ [])) }
+    ensures good { IfOk result (λ answer. HasAnswer command (a.old ∷ []) (answer_told answer)) }
+    ensures fails { IfErr result (AnswerFails command (a.old ∷ [])) }
 {
+    let _rows = a.rows();
     match command {
         Command::Transpose => Ok(Answer::Matrix(transpose(alloc, a)?)),
         Command::Sub {
@@ -134,13 +111,13 @@ fn of_two(
     a: &mut Mzed,
     b: &Mzed,
 ) -> Result<Answer, AnswerFault>
+    requires served { AreServed command (a.old ∷ b.now ∷ []) }
     requires fits { Fits command (a.old ∷ b.now ∷ []) }
     requires bounds { InKnownBounds command (a.old ∷ b.now ∷ []) }
-    requires first { IsBinary a.old }
-    requires second { IsBinary b.now }
-    ensures good { IfOk result (λ answer. IsComputed command (a.old ∷ b.now ∷ []) (answer_told answer)) }
-    ensures fails { IfErr result (ComputingFails command (a.old ∷ b.now ∷ [])) }
+    ensures good { IfOk result (λ answer. HasAnswer command (a.old ∷ b.now ∷ []) (answer_told answer)) }
+    ensures fails { IfErr result (AnswerFails command (a.old ∷ b.now ∷ [])) }
 {
+    let _rows = a.rows();
     match command {
         Command::Mul => Ok(Answer::Matrix(product(alloc, how, a, b)?)),
         Command::Add => {

@@ -4,7 +4,6 @@ ghost use Rattle.std.specs.Prelude.{◌≡◌, ℕ, [], List, IsTrue, OnOk, IfOk
 ghost use Rattle.m4_model.specs.FormTexts.{ReadsAs};
 ghost use Rattle.m4_etext.specs.FormReading.{StandsForText};
 ghost use Rattle.m4_cmd.specs.Files.{HasFed, FileFails, operand_fault};
-ghost use Rattle.m4_cmd.specs.Steps.{IsOperand};
 
 use crate::operands::OperandFault;
 use m4_dense::Mzed;
@@ -75,7 +74,6 @@ pub(crate) fn read_started<S: Shelf>(
     requires { IsTrue (S.started shelf.old) }
     ensures stock { S.stock shelf.new ≡ S.stock shelf.old }
     ensures read { IfOk result (λ m. (bytes : List ℕ) → S.rest shelf.old ≡ Some bytes → ReadsAs form bytes m) }
-    ensures operand { IfOk result IsOperand }
     ensures kept { OnOk result (S.faults shelf.new ≡ S.faults shelf.old) }
     ensures fails { IfErr result (FileFails (S.rest shelf.old) form (S.faults shelf.old) (S.faults shelf.new)) }
 {

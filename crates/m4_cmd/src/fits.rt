@@ -1,36 +1,54 @@
 //! Whether the operands' fields and shapes fit a command.
 
-ghost use Rattle.std.specs.Prelude.{◌↔◌, IsTrue};
-ghost use Rattle.m4_model.specs.Outcome.{AreServed, Fits, HasRectangle, HasRoom};
-ghost use Rattle.m4_cmd.specs.Steps.{AreOverBits};
+ghost use Rattle.std.specs.Prelude.{◌≡◌, ◌↔◌, IsTrue};
+ghost use Rattle.m4_model.specs.Outcome.{AreOver, AreServed, Fits, HasRectangle, HasRoom, ShareField};
+ghost use Rattle.m4_field.specs.Fields.{the_field};
 
-use m4_dense::Mzed;
+use m4_dense::{Field, Mzed};
 use m4_model::Command;
 
-/// Whether the command is there for the operands' fields.
+/// Whether the operands are over one field, which has the command.
 pub(crate) fn is_served(command: Command, operands: &[Mzed]) -> bool
     ensures { IsTrue result ↔ AreServed command operands.now }
 {
     match command {
-        Command::Convert => true,
-        Command::Mul | Command::Addmul { .. } | Command::Add => are_over_bits(operands),
-        Command::Transpose | Command::Stack | Command::Augment => are_over_bits(operands),
-        Command::Sub { .. } | Command::Rank | Command::Echelon => are_over_bits(operands),
-        Command::Inverse | Command::Solve | Command::Kernel => are_over_bits(operands),
-        Command::Ple | Command::Pluq => are_over_bits(operands),
+        Command::Mul | Command::Addmul { .. } | Command::Add => share_field(operands),
+        Command::Transpose | Command::Stack | Command::Augment => share_field(operands),
+        Command::Sub { .. } | Command::Convert => share_field(operands),
+        Command::Rank | Command::Echelon => are_over(Field::gf2(), operands),
+        Command::Inverse | Command::Solve => are_over(Field::gf2(), operands),
+        Command::Kernel => are_over(Field::gf2(), operands),
+        Command::Ple | Command::Pluq => are_over(Field::gf2(), operands),
     }
 }
 
-/// Whether the operands are over GF(2).
-pub(crate) fn are_over_bits(operands: &[Mzed]) -> bool
-    ensures { IsTrue result ↔ AreOverBits operands.now }
+/// Whether the matrices are over one field.
+fn share_field(matrices: &[Mzed]) -> bool
+    ensures { IsTrue result ↔ ShareField matrices.now }
 {
-    for operand in operands {
-        if !operand.is_over_gf2() {
+    match matrices.split_first() {
+        Some((first, others)) => are_over(first.field(), others),
+        None => true,
+    }
+}
+
+/// Whether the matrices are over this field.
+fn are_over(field: Field, matrices: &[Mzed]) -> bool
+    ensures { IsTrue result ↔ AreOver (the_field field) matrices.now }
+{
+    for matrix in matrices {
+        if !are_same(matrix.field(), field) {
             return false;
         }
     }
     true
+}
+
+/// Whether two fields are the same: of one degree, and of one polynomial.
+fn are_same(f: Field, g: Field) -> bool
+    ensures { IsTrue result ↔ (the_field f ≡ the_field g) }
+{
+    f.e() == g.e() && f.poly() == g.poly()
 }
 
 /// Whether the operands are as many as the command takes, and their shapes fit it.

@@ -1,7 +1,7 @@
 //! The operands of a job: its files, each read to its end, or to its first fault, before the next.
 
-ghost use Rattle.std.specs.Prelude.{◌≡◌, IfOk, IfErr, OnOk, All, map};
-ghost use Rattle.m4_cmd.specs.Steps.{AreReadAs, IsOperand, IsReadAs, OperandFails, OperandsFail, operand_status};
+ghost use Rattle.std.specs.Prelude.{◌≡◌, IfOk, IfErr, OnOk, map};
+ghost use Rattle.m4_cmd.specs.Steps.{AreReadAs, IsReadAs, OperandFails, OperandsFail, operand_status};
 
 use crate::files::read_started;
 use m4_dense::Mzed;
@@ -55,7 +55,6 @@ pub(crate) fn read_operands<S: Shelf>(
 ) -> Result<Vec<Mzed>, OperandFault>
     ensures stock { S.stock shelf.new ≡ S.stock shelf.old }
     ensures read { IfOk result (λ matrices. AreReadAs (S.stock shelf.old) form (map (λ name. name.now) names.now) matrices.items) }
-    ensures operands { IfOk result (λ matrices. All IsOperand matrices.items) }
     ensures kept { OnOk result (S.faults shelf.new ≡ S.faults shelf.old) }
     ensures fails { IfErr result (OperandsFail (S.stock shelf.old) form (map (λ name. name.now) names.now)
         (S.faults shelf.old) (S.faults shelf.new)) }
@@ -78,7 +77,6 @@ fn read_operand<S: Shelf>(
 ) -> Result<Mzed, OperandFault>
     ensures stock { S.stock shelf.new ≡ S.stock shelf.old }
     ensures read { IfOk result (IsReadAs (S.stock shelf.old) form name.now) }
-    ensures operand { IfOk result IsOperand }
     ensures kept { OnOk result (S.faults shelf.new ≡ S.faults shelf.old) }
     ensures fails { IfErr result (OperandFails (S.stock shelf.old) form name.now number (S.faults shelf.old) (S.faults shelf.new)) }
 {

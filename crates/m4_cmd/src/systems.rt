@@ -3,11 +3,11 @@
 
 ghost use Rattle.std.specs.Prelude.{◌≡◌, IfOk, IfErr, [], ◌∷◌};
 ghost use Rattle.m4_model.specs.Field.{gf2};
-ghost use Rattle.m4_model.specs.Outcome.{IsAnswer};
+ghost use Rattle.m4_model.specs.Outcome.{AreServed, HasAnswer, IsAnswer};
 ghost use Rattle.m4_model.specs.Text.{IsWithinLimits};
 ghost use Rattle.m4_model.specs.declared.command.Command.TheVariants.{Inverse, Solve, Kernel};
 ghost use Rattle.m4_cmd.specs.Answer.{answer_told};
-ghost use Rattle.m4_cmd.specs.Steps.{ComputingFails, IsBinary, IsComputed};
+ghost use Rattle.m4_cmd.specs.Steps.{AnswerFails};
 
 use crate::answer::{Answer, AnswerFault};
 use crate::bounds::is_within_limits;
@@ -16,7 +16,7 @@ use std::alloc::Global;
 
 /// The inverse of a square matrix, or that there is none.
 pub(crate) fn inverse_of(alloc: Global, how: How, a: &Mzed) -> Result<Answer, NoMemory>
-    requires operand { IsBinary a.now }
+    requires over_gf2 { a.now.field ≡ gf2 }
     requires square { a.now.cols ≡ a.now.rows }
     ensures is { IfOk result (λ answer. IsAnswer Inverse (a.now ∷ []) (answer_told answer)) }
 {
@@ -28,8 +28,8 @@ pub(crate) fn inverse_of(alloc: Global, how: How, a: &Mzed) -> Result<Answer, No
 
 /// The solution X of A X = B, or that there is none.
 pub(crate) fn solution_of(alloc: Global, how: How, a: &Mzed, b: &Mzed) -> Result<Answer, NoMemory>
-    requires first { IsBinary a.now }
-    requires second { IsBinary b.now }
+    requires first { a.now.field ≡ gf2 }
+    requires second { b.now.field ≡ gf2 }
     requires rows { a.now.rows ≡ b.now.rows }
     ensures is { IfOk result (λ answer. IsAnswer Solve (a.now ∷ b.now ∷ []) (answer_told answer)) }
 {
@@ -42,9 +42,9 @@ pub(crate) fn solution_of(alloc: Global, how: How, a: &Mzed, b: &Mzed) -> Result
 /// The basis of the kernel of a matrix. Its limit is looked at before it is made: it has a row for each column that the rank
 /// leaves.
 pub(crate) fn basis_of(alloc: Global, how: How, a: &Mzed) -> Result<Answer, AnswerFault>
-    requires { a.now.field ≡ gf2 }
-    ensures good { IfOk result (λ answer. IsComputed Kernel (a.now ∷ []) (answer_told answer)) }
-    ensures fails { IfErr result (ComputingFails Kernel (a.now ∷ [])) }
+    requires { AreServed Kernel (a.now ∷ []) }
+    ensures good { IfOk result (λ answer. HasAnswer Kernel (a.now ∷ []) (answer_told answer)) }
+    ensures fails { IfErr result (AnswerFails Kernel (a.now ∷ [])) }
 {
     let cols = a.cols();
     let form = pivot_form(alloc, how, a)?;

@@ -2,7 +2,7 @@ use Rattle.std.proofs.Common.{[], ◌∙◌, map, subst, List, ℕ}
 use Rattle.std.proofs.lemmas.List.{take_all, length-map}
 use Rattle.std.proofs.lemmas.Result.{err_from_is_err_and}
 use Rattle.m4_cmd.specs.Steps.{AreReadAs}
-use Rattle.m4_cmd.proofs.StepLemmas.{read_next, fails_next, operands_more}
+use Rattle.m4_cmd.proofs.StepLemmas.{read_next, fails_next}
 use Rattle.m4_cmd.proofs.operands.read_operands.Goals as goal
 
 pub returns-in_err-matrix-clause-fails : goal.returns-in_err-matrix-clause-fails
@@ -20,7 +20,6 @@ loop-index-preserved g c = record {
   read = read_next (λ name. name.now) c.args.names.now c.loop-index.index (record { ref_ptr = (0, 0); now = [] }) (g.S.Shelf.stock c.args.shelf.now) (g.S.Shelf.stock c.loop-index.shelf)
       c.args.form c.loop-index.matrices.items c.loop-index.invariant.stock c.loop-index-test.true c.loop-index.invariant.read c.in_ok-matrix.matrix c.push.new.self.items
       c.in_ok-push.ensures.items c.in_ok-matrix.ensures.read;
-  operands = operands_more c.loop-index.matrices.items c.push.new.self.items c.in_ok-matrix.matrix c.in_ok-push.ensures.items c.loop-index.invariant.operands c.in_ok-matrix.ensures.operand;
 }
 
 pub returns-clause-read : goal.returns-clause-read
