@@ -1,6 +1,7 @@
 //! Runs over files and sinks in memory, with what they end with.
 ghost use Rattle.std.specs.Prelude.{◌<◌};
 
+mod fields;
 mod questions;
 mod random;
 
@@ -430,40 +431,6 @@ const CONVERSIONS: [(&[&str], &str, Status, &str); 39] = [
     ),
     (&[], "gf2e 16 1002b 65536 257\n", Status::Limit, ""),
 ];
-
-/// Commands that extension fields don't have yet: `Shape`, after all files were read.
-const UNSERVED: [Case<'static>; 4] = [
-    (&["rank", "A"], "gf2e 2 7 1 1\n3\n", "", Status::Shape, ""),
-    (
-        &["add", "A", "B"],
-        "gf2e 2 7 1 1\n3\n",
-        "gf2e 2 7 1 1\n1\n",
-        Status::Shape,
-        "",
-    ),
-    (
-        &["mul", "A", "B"],
-        "gf2 1 1\n1\n",
-        "gf2e 2 7 1 1\n1\n",
-        Status::Shape,
-        "",
-    ),
-    (
-        &["mul", "A", "B"],
-        "gf2e 2 7 1 1\n1\n",
-        "gf2 1 1\n2\n",
-        Status::Text { operand: 2, at: 8 },
-        "",
-    ),
-];
-
-#[test]
-fn commands_over_extension_fields(rt: HostRuntime) -> Result<(), Fail> {
-    for case in &UNSERVED {
-        assert_case(&rt, rt.alloc(), *case)?;
-    }
-    Ok(())
-}
 
 #[test]
 fn conversions(rt: HostRuntime) -> Result<(), Fail> {
