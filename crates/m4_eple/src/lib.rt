@@ -18,7 +18,7 @@ mod raise;
 mod tests;
 
 pub use base::Base;
-pub use bring::bring_up;
+pub use bring::{BY_ROWS, bring_up};
 pub use by_words::ByWords;
 pub use exchanges::swap_rows_by;
 pub use halves::{Halving, ple_by_halves};

@@ -1,51 +1,97 @@
--- Columns that are gathered entry by entry, and rows that are put at the pivots.
-use Rattle.std.proofs.Common.{◌≡◌, ◌≢◌, ℕ, ◌+◌, ◌<◌, ◌≤◌, inl, inr, refl, sym, ◌∙◌, ap, ap₂, subst, arith, List, [], length, slice_index, get_or, set}
+-- Columns that are gathered run by run, and rows that are put at the pivots.
+use Rattle.std.proofs.Common.{◌≡◌, ◌≢◌, ℕ, ◌+◌, ◌-◌, ◌<◌, ◌≤◌, inl, inr, refl, sym, ◌∙◌, ap, ap₂, subst, arith, List, [], length, slice_index, get_or, drop, get_or-take, get_or-drop}
 use Rattle.std.proofs.lemmas.Bool.{cases_lt}
 use Rattle.std.proofs.lemmas.List.{length-set, get_or-set_same, get_or-set_other}
-use Rattle.m4_model.specs.Matrix.{Matrix, IsMatrix, HasShape, row, at, product, with_entry, with_row}
+use Rattle.m4_model.specs.Matrix.{Matrix, IsMatrix, HasShape, row, at, product, with_row}
 use Rattle.m4_model.specs.Shapes.{cut}
 use Rattle.m4_model.specs.Rank.{IsRising}
 use Rattle.m4_model.proofs.ShapeLemmas.{HasShape-own}
 use Rattle.m4_model.proofs.CutLemmas.{at-cut, HasShape-cut}
+use Rattle.m4_mzd.specs.Parts.{part, with_part}
+use Rattle.m4_mzd.proofs.PlaceLemmas.{length-part, get_or-with_part_before, get_or-with_part_within}
 use Rattle.m4_trsm.specs.Triangles.{unit_upper}
 use Rattle.m4_solve.specs.Equations.{IsGathered}
 use Rattle.m4_solve.specs.Factored.{IsBackSolved}
-use Rattle.m4_solve.proofs.KernelRows.{at-written, at-written_beside, at-written_away}
 
--- The first s entries of row i of K are those of these columns of row i of W; the other rows are those of K0.
-pub record IsRowGathered (W : Matrix) (q : List ℕ) (i s : ℕ) (K0 K : Matrix) : Type 0 where
+-- Of the first i rows of K the entries from column c on are `count` entries of W's from column d on, and all else is as in K0.
+pub record AreRowsCopied (W K0 : Matrix) (c d count i : ℕ) (K : Matrix) : Type 0 where
   pub height : length K.entries ≡ length K0.entries
-  pub width : length (row K i) ≡ length (row K0 i)
-  pub columns : (u : ℕ) → u < s → at K i u ≡ at W i (slice_index q u)
-  pub others : (j u : ℕ) → j ≢ i → at K j u ≡ at K0 j u
+  pub copied : (j : ℕ) → j < i → row K j ≡ with_part c (part d count (row W j)) (row K0 j)
+  pub later : (j : ℕ) → i ≤ j → row K j ≡ row K0 j
 
-pub gathered_none : (W : Matrix) (q : List ℕ) (i : ℕ) (K : Matrix) → IsRowGathered W q i 0 K K
-gathered_none W q i K = record {
+pub copied_none : (W : Matrix) (c d count : ℕ) (K : Matrix) → AreRowsCopied W K c d count 0 K
+copied_none W c d count K = record {
   height = refl;
-  width = refl;
-  columns = λ u before. absurd (omega (arith, before));
-  others = λ j u away. refl;
+  copied = λ j before. absurd (omega (arith, before));
+  later = λ j from. refl;
 }
 
--- one entry more
-pub gathered_more : (W : Matrix) (q : List ℕ) (i s x : ℕ) (K0 K : Matrix) → i < length K0.entries → s < length (row K0 i) → x ≡ at W i (slice_index q s)
-    → IsRowGathered W q i s K0 K → IsRowGathered W q i (s + 1) K0 (with_entry K i s x)
-gathered_more W q i s x K0 K in_rows in_cols is old =
+-- one row more
+pub copied_more : (W : Matrix) (c d count i : ℕ) (K0 K : Matrix) → i < length K0.entries → AreRowsCopied W K0 c d count i K
+    → AreRowsCopied W K0 c d count (i + 1) (with_row K i (with_part c (part d count (row W i)) (row K i)))
+copied_more W c d count i K0 K in_rows old =
+    let xs = with_part c (part d count (row W i)) (row K i) in
     let height = old.height in
-    let width = old.width in
-    let here : i < length K.entries = omega (arith, height, in_rows) in
+    let here : row (with_row K i xs) i ≡ xs = get_or-set_same K.entries i xs [] (omega (arith, height, in_rows)) in
+    let away : (j : ℕ) → j ≢ i → row (with_row K i xs) j ≡ row K j = λ j other. get_or-set_other K.entries i j xs [] other in
     record {
-      height = length-set K.entries i (set (row K i) s x) ∙ height;
-      width = ap length (get_or-set_same K.entries i (set (row K i) s x) [] here) ∙ length-set (row K i) s x ∙ width;
-      columns = λ u before. elim (cases_lt u s) [
-        | inl earlier ↦ at-written_beside K i s x u here (λ same. absurd (omega (arith, same, earlier))) ∙ old.columns u earlier
+      height = length-set K.entries i xs ∙ height;
+      copied = λ j before. elim (cases_lt j i) [
+        | inl earlier ↦ away j (λ same. absurd (omega (arith, same, earlier))) ∙ old.copied j earlier
         | inr last ↦
-            let same : s ≡ u = omega (arith, before, last) in
-            subst (λ (u : ℕ). at (with_entry K i s x) i u ≡ at W i (slice_index q u)) same
-            (at-written K i s x here (let e : s < length (row K i) = omega (arith, width, in_cols) in e) ∙ is)
+            let same : i ≡ j = omega (arith, before, last) in
+            subst (λ (j : ℕ). row (with_row K i xs) j ≡ with_part c (part d count (row W j)) (row K0 j)) same
+            (here ∙ ap (with_part c (part d count (row W i))) (old.later i (omega arith)))
       ];
-      others = λ j u away. at-written_away K i s x j u away ∙ old.others j u away;
+      later = λ j from. away j (λ same. absurd (omega (arith, same, from))) ∙ old.later j (omega (arith, from));
     }
+
+-- all rows
+module _ {W K0 K : Matrix} {c d count n : ℕ} (done : AreRowsCopied W K0 c d count n K) (source : (i : ℕ) → i < n → d + count ≤ length (row W i))
+    (target : (i : ℕ) → i < n → c + count ≤ length (row K0 i)) where
+  long : (i : ℕ) → i < n → length (part d count (row W i)) ≡ count
+  long i below = length-part d count (row W i) (source i below)
+
+  room : (i : ℕ) → i < n → c + length (part d count (row W i)) ≤ length (row K0 i)
+  room i below = let own = long i below in let fits = target i below in omega (arith, own, fits)
+
+  pub copied_entry : (i u : ℕ) → i < n → u < count → at K i (c + u) ≡ at W i (d + u)
+  copied_entry i u below inside =
+      let own = long i below in
+      let place : c + u - c ≡ u = omega arith in
+      ap (λ (xs : List ℕ). get_or xs (c + u) 0) (done.copied i below)
+      ∙ get_or-with_part_within c (part d count (row W i)) (row K0 i) (room i below) (c + u) (omega arith) (omega (arith, own, inside))
+      ∙ ap (λ (j : ℕ). get_or (part d count (row W i)) j 0) place
+      ∙ get_or-take count (drop d (row W i)) u 0 inside
+      ∙ get_or-drop d (row W i) u 0
+
+  pub copied_before : (i j : ℕ) → i < n → j < c → at K i j ≡ at K0 i j
+  copied_before i j below left =
+      ap (λ (xs : List ℕ). get_or xs j 0) (done.copied i below)
+      ∙ get_or-with_part_before c (part d count (row W i)) (row K0 i) (room i below) j left
+
+-- columns that were gathered run by run: one run more
+pub gathered_run : (W K K1 : Matrix) (q : List ℕ) (rows s count : ℕ) → s < length q
+    → ((u : ℕ) → u < count → slice_index q (s + u) ≡ slice_index q s + u)
+    → ((i u : ℕ) → i < rows → u < s → at K i u ≡ at W i (slice_index q u))
+    → ((i u : ℕ) → i < rows → u < count → at K1 i (s + u) ≡ at W i (slice_index q s + u))
+    → ((i j : ℕ) → i < rows → j < s → at K1 i j ≡ at K i j)
+    → (i u : ℕ) → i < rows → u < s + count → at K1 i u ≡ at W i (slice_index q u)
+gathered_run W K K1 q rows s count inside run so_far copied before i u below within = elim (cases_lt u s) [
+  | inl earlier ↦ before i u below earlier ∙ so_far i u below earlier
+  | inr from ↦
+      let place : s + (u - s) ≡ u = omega (arith, from) in
+      let short : u - s < count = omega (arith, from, within) in
+      ap (at K1 i) (sym place) ∙ copied i (u - s) below short ∙ ap (at W i) (sym (run (u - s) short) ∙ ap (slice_index q) place)
+]
+
+-- a run ends within the columns
+pub run_within : (q : List ℕ) (s count cols : ℕ) → 0 < count → s + count ≤ length q → ((u : ℕ) → u < count → slice_index q (s + u) ≡ slice_index q s + u)
+    → ((t : ℕ) → t < length q → slice_index q t < cols) → slice_index q s + count ≤ cols
+run_within q s count cols some fits run below =
+    let last = run (count - 1) (omega (arith, some)) in
+    let low = below (s + (count - 1)) (omega (arith, some, fits)) in
+    omega (arith, last, low, some)
 
 -- The first k rows of Z are in the rows of their pivots, and the other rows are zero.
 pub record IsPlacedTo (Z : Matrix) (q : List ℕ) (n cols k : ℕ) (X : Matrix) : Type 0 where

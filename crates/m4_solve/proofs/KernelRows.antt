@@ -1,11 +1,14 @@
--- The numbers that aren't pivots are listed, and the rows of the basis are filled entry by entry.
+-- The numbers that aren't pivots are listed, and the rows of the basis are filled run by run.
 use Rattle.std.proofs.Common.{◌≡◌, ◌≢◌, ℕ, ◌+◌, ◌-◌, ◌<◌, ◌≤◌, ◌⊎◌, inl, inr, ⊎_elim, refl, sym, ◌∙◌, ap, subst, arith, List, [], ◌∷◌, ◌++◌, length, slice_index, get_or, set, length-append}
 use Rattle.std.proofs.lemmas.Bool.{cases_lt}
 use Rattle.std.proofs.lemmas.List.{length-set, get_or-set_same, get_or-set_other, get_or_append_left, get_or-append_right}
-use Rattle.m4_model.specs.Matrix.{Matrix, row, at, with_entry}
+use Rattle.m4_model.specs.Matrix.{Matrix, row, at, with_entry, with_row}
 use Rattle.m4_model.specs.Rank.{IsRising}
 use Rattle.m4_model.proofs.EchelonLemmas.{rising-le}
-use Rattle.m4_solve.specs.Kernel.{IsKernelRow}
+use Rattle.m4_mzd.specs.Window.{Window, content, showing}
+use Rattle.m4_mzd.specs.Parts.{with_part}
+use Rattle.m4_mzd.proofs.PlaceLemmas.{length-with_part, get_or-with_part_before, get_or-with_part_within, get_or-with_part_past}
+use Rattle.m4_solve.specs.Kernel.{IsKernelRow, AreFilledTo}
 
 -- The numbers below j are parted: the first ones of q, and those of g.
 pub record ArePartedTo (q g : List ℕ) (next j : ℕ) : Type 0 where
@@ -90,6 +93,11 @@ at-written_beside A r c x j in_rows other =
 pub at-written_away : (A : Matrix) (r c x i j : ℕ) → i ≢ r → at (with_entry A r c x) i j ≡ at A i j
 at-written_away A r c x i j other = ap (λ (xs : List ℕ). get_or xs j 0) (get_or-set_other A.entries r i (set (row A r) c x) [] other)
 
+-- a window that was written twice
+pub written_again : (a b c : Window) (A : Matrix) → b ≡ showing a (content b) → c ≡ showing b A → c ≡ showing a (content c)
+written_again a b c A first second =
+    second ∙ ap (λ (w : Window). record b { bits = w.bits }) (sym second) ∙ ap (λ (w : Window). showing w (content c)) first
+
 -- Row t of K is filled for column g and the first s pivots; it was zero in K0, whose other rows stay.
 pub record IsFilledTo (R : Matrix) (q : List ℕ) (g t s : ℕ) (K0 K : Matrix) : Type 0 where
   pub rows : K.rows ≡ K0.rows
@@ -118,34 +126,68 @@ module _ (R : Matrix) (q : List ℕ) (g t : ℕ) (K0 : Matrix) (in_rows : t < le
     others = λ i j away. at-written_away K0 t g 1 i j away;
   }
 
-  -- one pivot more
-  pub filled_more : (s : ℕ) (K : Matrix) → IsRising q → s < length q → slice_index q s < length (row K0 t)
-      → slice_index q s ≢ g → IsFilledTo R q g t s K0 K → IsFilledTo R q g t (s + 1) K0 (with_entry K t (slice_index q s) (at R s g))
-  filled_more s K rising inside in_cols apart old =
-      let c = slice_index q s in
-      let height = old.height in
-      let width = old.width in
-      let here : t < length K.entries = omega (arith, height, in_rows) in
-      record {
-        rows = old.rows;
-        cols = old.cols;
-        height = length-set K.entries t (set (row K t) c (at R s g)) ∙ height;
-        width = width_written K c (at R s g) here ∙ width;
-        own = at-written_beside K t c (at R s g) g here (λ same. apart (sym same)) ∙ old.own;
-        at_pivots = λ u before. ⊎_elim
-            (λ (earlier : u < s).
-            let rises = rising u s earlier inside in
-            at-written_beside K t c (at R s g) (slice_index q u) here (λ same. absurd (omega (arith, same, rises))) ∙ old.at_pivots u earlier)
-            (λ (last : s ≤ u).
-            let same : s ≡ u = omega (arith, before, last) in
-            subst (λ (u : ℕ). at (with_entry K t c (at R s g)) t (slice_index q u) ≡ at R u g) same
-            (at-written K t c (at R s g) here (let e : c < length (row K t) = omega (arith, width, in_cols) in e)))
-            (cases_lt u s);
-        elsewhere = λ j within other none.
-            at-written_beside K t c (at R s g) j here (λ same. none s (omega arith) (sym same))
-            ∙ old.elsewhere j within other (λ u earlier. none u (omega (arith, earlier)));
-        others = λ i j away. at-written_away K t c (at R s g) i j away ∙ old.others i j away;
-      }
+  -- one run of pivots more
+  module _ (s count : ℕ) (ys : List ℕ) (K : Matrix) (rising : IsRising q) (some : 0 < count) (fits : s + count ≤ length q)
+      (run : (u : ℕ) → u < count → slice_index q (s + u) ≡ slice_index q s + u) (long : length ys ≡ count)
+      (entries : (u : ℕ) → u < count → get_or ys u 0 ≡ at R (s + u) g) (in_cols : slice_index q s + count ≤ length (row K0 t))
+      (apart : (u : ℕ) → u < length q → slice_index q u ≢ g) (old : IsFilledTo R q g t s K0 K) where
+    here : t < length K.entries
+    here = let height = old.height in omega (arith, height, in_rows)
+
+    room : slice_index q s + length ys ≤ length (row K t)
+    room = let width = old.width in omega (arith, width, in_cols, long)
+
+    own_row : row (with_row K t (with_part (slice_index q s) ys (row K t))) t ≡ with_part (slice_index q s) ys (row K t)
+    own_row = get_or-set_same K.entries t (with_part (slice_index q s) ys (row K t)) [] here
+
+    away_row : (i : ℕ) → i ≢ t → row (with_row K t (with_part (slice_index q s) ys (row K t))) i ≡ row K i
+    away_row i other = get_or-set_other K.entries t i (with_part (slice_index q s) ys (row K t)) [] other
+
+    -- an entry that is none of the run's
+    outside : (j : ℕ) → ((u : ℕ) → u < count → slice_index q (s + u) ≢ j) → at (with_row K t (with_part (slice_index q s) ys (row K t))) t j ≡ at K t j
+    outside j none =
+        ap (λ (xs : List ℕ). get_or xs j 0) own_row ∙ ⊎_elim
+        (λ (before : j < slice_index q s). get_or-with_part_before (slice_index q s) ys (row K t) room j before)
+        (λ (from : slice_index q s ≤ j). ⊎_elim
+        (λ (inside : j < slice_index q s + count).
+        let place = run (j - slice_index q s) (omega (arith, from, inside)) in
+        absurd (none (j - slice_index q s) (omega (arith, from, inside)) (omega (arith, place, from))))
+        (λ (past : slice_index q s + count ≤ j). get_or-with_part_past (slice_index q s) ys (row K t) room j (omega (arith, past, long)))
+        (cases_lt j (slice_index q s + count)))
+        (cases_lt j (slice_index q s))
+
+    pub filled_run : IsFilledTo R q g t (s + count) K0 (with_row K t (with_part (slice_index q s) ys (row K t)))
+    filled_run =
+        let height = old.height in
+        let width = old.width in
+        record {
+          rows = old.rows;
+          cols = old.cols;
+          height = length-set K.entries t (with_part (slice_index q s) ys (row K t)) ∙ height;
+          width = ap length own_row ∙ length-with_part (slice_index q s) ys (row K t) room ∙ width;
+          own = outside g (λ u inside. apart (s + u) (omega (arith, inside, fits))) ∙ old.own;
+          at_pivots = λ u before. ⊎_elim
+              (λ (earlier : u < s).
+              outside (slice_index q u) (λ v inside same.
+              let rises = rising u (s + v) (omega (arith, earlier)) (omega (arith, inside, fits)) in absurd (omega (arith, rises, same)))
+              ∙ old.at_pivots u earlier)
+              (λ (from : s ≤ u).
+              let place : s + (u - s) ≡ u = omega (arith, from) in
+              let short : u - s < count = omega (arith, from, before) in
+              let column : slice_index q u ≡ slice_index q s + (u - s) = ap (slice_index q) (sym place) ∙ run (u - s) short in
+              let offset : slice_index q s + (u - s) - slice_index q s ≡ u - s = omega arith in
+              ap (λ (xs : List ℕ). get_or xs (slice_index q u) 0) own_row
+              ∙ ap (λ (j : ℕ). get_or (with_part (slice_index q s) ys (row K t)) j 0) column
+              ∙ get_or-with_part_within (slice_index q s) ys (row K t) room (slice_index q s + (u - s)) (omega arith) (omega (arith, short, long))
+              ∙ ap (λ (j : ℕ). get_or ys j 0) offset
+              ∙ entries (u - s) short
+              ∙ ap (λ (u : ℕ). at R u g) place)
+              (cases_lt u s);
+          elsewhere = λ j within other none.
+              outside j (λ v inside. none (s + v) (omega (arith, inside)))
+              ∙ old.elsewhere j within other (λ u earlier. none u (omega (arith, earlier)));
+          others = λ i j away. ap (λ (xs : List ℕ). get_or xs j 0) (away_row i away) ∙ old.others i j away;
+        }
 
 -- all pivots are filled in
 pub filled_all : (R : Matrix) (q : List ℕ) (g t s : ℕ) (K0 K : Matrix) → s ≡ length q → IsFilledTo R q g t s K0 K → IsKernelRow R q g t K
@@ -156,13 +198,6 @@ filled_all R q g t s K0 K all filled =
       at_pivots = λ u inside. filled.at_pivots u (omega (arith, inside, all));
       elsewhere = λ j within other none. filled.elsewhere j (omega (arith, within, cols)) other (λ u before. none u (omega (arith, before, all)));
     }
-
--- The first rows of the basis are filled, and the others are zero.
-pub record AreFilledTo (R : Matrix) (q g : List ℕ) (t : ℕ) (K : Matrix) : Type 0 where
-  pub rows : K.rows ≡ length g
-  pub cols : K.cols ≡ R.cols
-  pub filled : (u : ℕ) → u < t → IsKernelRow R q (slice_index g u) u K
-  pub zeros : (u j : ℕ) → t ≤ u → u < length g → j < R.cols → at K u j ≡ 0
 
 -- one row more
 pub rows_more : (R : Matrix) (q g : List ℕ) (t : ℕ) (K N : Matrix) → AreFilledTo R q g t K → N.rows ≡ K.rows → N.cols ≡ K.cols

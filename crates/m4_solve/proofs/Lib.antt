@@ -1,3 +1,5 @@
+pub mod Behind
+pub mod Cleared
 pub mod Equations
 pub mod Fronts
 pub mod Gathers
@@ -7,4 +9,4 @@ pub mod Ranks
 pub mod Reached
 pub mod Risings
 pub mod Solved
-pub mod Sweeps
+pub mod Units

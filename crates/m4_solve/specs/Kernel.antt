@@ -1,5 +1,5 @@
 -- The basis of the kernel, read off the reduced form.
-use Rattle.std.specs.Prelude.{◌≡◌, ◌≢◌, ℕ, ◌<◌, List, length, slice_index}
+use Rattle.std.specs.Prelude.{◌≡◌, ◌≢◌, ℕ, ◌<◌, ◌≤◌, List, length, slice_index}
 use Rattle.m4_model.specs.Field.{gf2}
 use Rattle.m4_model.specs.Matrix.{Matrix, HasShape, at}
 use Rattle.m4_model.specs.Rank.{IsRising}
@@ -16,6 +16,13 @@ pub record IsKernelRow (R : Matrix) (q : List ℕ) (g t : ℕ) (K : Matrix) : Ty
   pub own : at K t g ≡ 1
   pub at_pivots : (s : ℕ) → s < length q → at K t (slice_index q s) ≡ at R s g
   pub elsewhere : (j : ℕ) → j < K.cols → j ≢ g → ((s : ℕ) → s < length q → slice_index q s ≢ j) → at K t j ≡ 0
+
+-- The first rows of the basis are filled, and the others are zero.
+pub record AreFilledTo (R : Matrix) (q g : List ℕ) (t : ℕ) (K : Matrix) : Type 0 where
+  pub rows : K.rows ≡ length g
+  pub cols : K.cols ≡ R.cols
+  pub filled : (u : ℕ) → u < t → IsKernelRow R q (slice_index g u) u K
+  pub zeros : (u j : ℕ) → t ≤ u → u < length g → j < R.cols → at K u j ≡ 0
 
 -- The rows of K are such rows, one for each number of g.
 pub record IsKernelBasis (R : Matrix) (q g : List ℕ) (K : Matrix) : Type 0 where

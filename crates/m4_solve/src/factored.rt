@@ -1,7 +1,7 @@
 //! A matrix that is factored once, and right sides that are solved by its factors.
 
 ghost use Rattle.std.specs.Prelude.{◌≡◌, ◌⊎◌, ℕ, ◌<◌, ◌≤◌, length, slice_index, take, min, IfOk};
-ghost use Rattle.m4_model.specs.Matrix.{HasShape, product};
+ghost use Rattle.m4_model.specs.Matrix.{HasShape, at, product};
 ghost use Rattle.m4_model.specs.Rank.{IsRising};
 ghost use Rattle.m4_model.specs.Shapes.{cut, swaps};
 ghost use Rattle.m4_model.specs.Step.{reordered};
@@ -15,7 +15,7 @@ ghost use Rattle.m4_solve.specs.Factored.{IsFactored, IsBackSolved};
 
 use crate::first::are_first;
 use crate::gather::gathered;
-use m4_eple::{Base, Halving, bring_up, ple_by_halves};
+use m4_eple::{BY_ROWS, Base, Halving, bring_up, ple_by_halves};
 use m4_model::NoMemory;
 use m4_mzed::{EWin, EWinMut, Mzed};
 use m4_newton::EAddMul;
@@ -122,13 +122,14 @@ impl Factored {
         let _cols = self.matrix.cols();
         let pivots = self.pivots.as_slice();
         let rank = pivots.len() as u32;
+        let by_rows = with.cutoff.min(BY_ROWS);
         if are_first(pivots, rank) {
             let (first, _) = self.matrix.all().split_rows(rank);
-            solve_first_rows(&first.narrow(rank), y, &mut with.engine, with.cutoff);
+            solve_first_rows(&first.narrow(rank), y, &mut with.engine, by_rows);
             return Ok(());
         }
         let g = gathered(alloc, &self.matrix.all(), pivots)?;
-        solve_first_rows(&g.all(), y, &mut with.engine, with.cutoff);
+        solve_first_rows(&g.all(), y, &mut with.engine, by_rows);
         Ok(())
     }
 }
@@ -155,7 +156,7 @@ fn solve_first_rows<M: EAddMul>(t: &EWin, y: &mut Mzed, engine: &mut M, cutoff: 
 }
 
 /// The same in a window.
-fn solve_in_window<M: EAddMul>(t: &EWin, y: &mut EWinMut, engine: &mut M, cutoff: u32)
+pub(crate) fn solve_in_window<M: EAddMul>(t: &EWin, y: &mut EWinMut, engine: &mut M, cutoff: u32)
     requires square { (e_shown t.now).rows ≡ (e_shown t.now).cols }
     requires within { (e_shown t.now).rows ≤ y.old.rows }
     requires field { (e_shown t.now).field ≡ y.old.field }
@@ -164,6 +165,7 @@ fn solve_in_window<M: EAddMul>(t: &EWin, y: &mut EWinMut, engine: &mut M, cutoff
     requires cutoff { 64 ≤ cutoff }
     ensures kept { y.new ≡ showing y.old (content y.new) }
     ensures solved { product (unit_upper (e_shown t.now)) (cut (content y.new) 0 0 (e_shown t.now).rows y.new.cols) ≡ cut (content y.old) 0 0 (e_shown t.now).rows y.old.cols }
+    ensures rest { (i j : ℕ) → (e_shown t.now).rows ≤ i → i < y.old.rows → j < y.old.cols → at (content y.new) i j ≡ at (content y.old) i j }
     ensures reach { M.limits engine.new ≡ M.limits engine.old }
     ensures still_for { M.IsFor engine.new y.old.field }
 {

@@ -16,7 +16,9 @@ use std::alloc::Global;
 
 /// Makes of the matrix its reduced row echelon form, and answers its rank. Where memory is wanting, the matrix is as it was.
 ///
-/// A PLE is made in place, its echelon form is kept, and the entries above the pivots are cleared. It refuses no shape.
+/// A PLE is made in place, its echelon form is kept, and the entries above the pivots are cleared by a triangular solve, as by
+/// C.-P. Jeannerod, C. Pernet and A. Storjohann, "Rank-profile revealing Gaussian elimination and the CUP matrix decomposition"
+/// (2013). It takes memory for a square matrix whose side is the lesser of rows and columns, and refuses no shape.
 pub fn echelon<M: AddMul>(alloc: Global, a: &mut Mzd, ctx: &mut Ctx<M>) -> Result<u32, NoMemory>
     requires ready { M.ready ctx.old.engine.engine }
     requires serves { Serves (M.limits ctx.old.engine.engine) ctx.old.cutoff a.old.rows a.old.cols }
@@ -63,8 +65,8 @@ impl ReducedForm {
 
 /// The reduced row echelon form of a matrix of any shape, made of a copy. It refuses nothing, but memory may be wanting.
 ///
-/// It tells the rank, the number of its pivots, and so what shape the basis of the kernel has, before `kernel_of` takes
-/// memory for that basis.
+/// It is made as by `echelon`, and takes that memory besides. It tells the rank, the number of its pivots, and so what shape
+/// the basis of the kernel has, before `kernel_of` takes memory for that basis.
 pub fn reduced_form<M: AddMul>(
     alloc: Global,
     a: &Win,

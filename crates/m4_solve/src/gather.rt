@@ -1,12 +1,13 @@
 //! Columns that are gathered, and rows that are put where they belong.
 
-ghost use Rattle.std.specs.Prelude.{◌≡◌, ◌≢◌, ℕ, ◌+◌, ◌<◌, ◌≤◌, length, slice_index, IfOk};
+ghost use Rattle.std.specs.Prelude.{◌≡◌, ℕ, ◌+◌, ◌<◌, ◌≤◌, length, slice_index, IfOk};
 ghost use Rattle.m4_model.specs.Matrix.{at, zero_matrix};
 ghost use Rattle.m4_model.specs.Rank.{IsRising};
 ghost use Rattle.m4_mzed.specs.EWindow.{content, showing};
 ghost use Rattle.m4_mzed.specs.ESeen.{e_shown};
 ghost use Rattle.m4_solve.specs.Equations.{IsGathered, IsPlaced};
 
+use crate::runs::run_from;
 use m4_model::NoMemory;
 use m4_mzd::MOST_SIDE;
 use m4_mzed::{EWin, EWinMut, Mzed};
@@ -24,40 +25,43 @@ pub(crate) fn gathered(alloc: Global, w: &EWin, columns: &[u32]) -> Result<Mzed,
     let count = columns.len() as u32;
     let mut g = Mzed::zeros(alloc, w.field(), count, count)?;
     let (mut all, home) = g.all_mut();
-    gather_rows(&mut all, w, columns);
+    gather_columns(&mut all, w, columns);
     g.put_all(all, home);
     let _shape = g.rows();
     Ok(g)
 }
 
-/// Copies these columns of each row of `w` to the row of the same number.
-fn gather_rows(g: &mut EWinMut, w: &EWin, columns: &[u32])
+/// Copies these columns of `w`, as many rows as `g` has, over the first columns of `g`, run by run.
+pub(crate) fn gather_columns(g: &mut EWinMut, w: &EWin, columns: &[u32])
     requires rows { g.old.rows ≤ (e_shown w.now).rows }
-    requires cols { g.old.cols ≡ length columns.now }
+    requires room { length columns.now ≤ g.old.cols }
     requires field { (e_shown w.now).field ≡ g.old.field }
     requires in_cols { (s : ℕ) → s < length columns.now → slice_index columns.now s < (e_shown w.now).cols }
     ensures kept { g.new ≡ showing g.old (content g.new) }
     ensures columns { (i s : ℕ) → i < g.old.rows → s < length columns.now → at (content g.new) i s ≡ at (e_shown w.now) i (slice_index columns.now s) }
 {
-    for i in 0..g.rows() {
-        gather_row(g, i, w, columns);
+    let _cols = g.cols();
+    let mut s = 0;
+    while s < columns.len() {
+        let count = run_from(columns, s);
+        copy_columns(g, s as u32, w, columns[s], count as u32);
+        s += count;
     }
 }
 
-/// Copies these columns of row `i` of `w` to row `i`.
-fn gather_row(g: &mut EWinMut, i: u32, w: &EWin, columns: &[u32])
-    requires row { i < g.old.rows }
-    requires rows { i < (e_shown w.now).rows }
-    requires cols { g.old.cols ≡ length columns.now }
+/// Copies `count` columns of `w` from column `d` on, as many rows as `g` has, over those of `g` from column `c` on.
+fn copy_columns(g: &mut EWinMut, c: u32, w: &EWin, d: u32, count: u32)
+    requires rows { g.old.rows ≤ (e_shown w.now).rows }
+    requires room { c + count ≤ g.old.cols }
+    requires in_cols { d + count ≤ (e_shown w.now).cols }
     requires field { (e_shown w.now).field ≡ g.old.field }
-    requires in_cols { (s : ℕ) → s < length columns.now → slice_index columns.now s < (e_shown w.now).cols }
     ensures kept { g.new ≡ showing g.old (content g.new) }
-    ensures columns { (s : ℕ) → s < length columns.now → at (content g.new) i s ≡ at (e_shown w.now) i (slice_index columns.now s) }
-    ensures others { (j s : ℕ) → j ≢ i → at (content g.new) j s ≡ at (content g.old) j s }
+    ensures copied { (i u : ℕ) → i < g.old.rows → u < count → at (content g.new) i (c + u) ≡ at (e_shown w.now) i (d + u) }
+    ensures before { (i j : ℕ) → i < g.old.rows → j < c → at (content g.new) i j ≡ at (content g.old) i j }
 {
-    let _cols = g.cols();
-    for s in 0..columns.len() {
-        g.put(i, s as u32, w.get(i, columns[s]));
+    let _rows = w.rows();
+    for i in 0..g.rows() {
+        g.copy_part(i, c, w, i, d, count);
     }
 }
 

@@ -3,6 +3,7 @@
 
 mod answers;
 mod basis;
+mod clear;
 mod context;
 mod factored;
 mod first;
@@ -10,6 +11,7 @@ mod forms;
 mod gather;
 mod reduce;
 mod room;
+mod runs;
 mod systems;
 
 pub use answers::{Inverse, Solution};

@@ -8,14 +8,16 @@ use crate::context::Ctx;
 use crate::reduce::reduce_window;
 use m4_model::NoMemory;
 use m4_mzd::{AddMul, Mzd};
+use m4_mzed::Mzed;
 use std::alloc::Global;
 
-/// Room for a reduction: the exchanges of rows, the pivots, and a row.
+/// Room for a reduction: the exchanges of rows, the pivots, a row, and a square for the pivot columns.
 #[derive(Drop)]
 pub(crate) struct Room {
     exchanges: Vec<u32>,
     pub(crate) pivots: Vec<u32>,
     row: Mzd,
+    corner: Mzed,
 }
 
 impl Room {
@@ -25,11 +27,12 @@ impl Room {
         requires few_cols { cols ≤ 2 ^ 24 }
         ensures { IfOk result (IsRoomFor rows cols) }
     {
-        let least = if rows < cols { rows } else { cols };
+        let least = rows.min(cols);
         Ok(Room {
             exchanges: vec![in alloc; 0u32; rows as usize]?,
             pivots: vec![in alloc; 0u32; least as usize]?,
             row: Mzd::zeros(alloc, 1, cols)?,
+            corner: Mzed::of_bits(Mzd::zeros(alloc, least, least)?),
         })
     }
 
@@ -47,13 +50,16 @@ impl Room {
     {
         let (mut all, home) = a.all_mut();
         let (mut spare, spare_home) = self.row.all_mut();
+        let (mut corner, corner_home) = self.corner.all_mut();
         let rank = reduce_window(
             &mut all,
             &mut self.exchanges,
             &mut self.pivots,
             &mut spare,
+            &mut corner,
             ctx,
         );
+        self.corner.put_all(corner, corner_home);
         self.row.put_all(spare, spare_home);
         a.put_all(all, home);
         rank
