@@ -1,8 +1,10 @@
 //! The elimination of one word of the columns over GF(2), as a base.
 
 ghost use Rattle.std.specs.Prelude.{◌≡◌, ◌⊎◌, ℕ, ◌<◌, ◌≤◌, length, take, slice_index};
+ghost use Rattle.m4_model.specs.Field.{gf2};
 ghost use Rattle.m4_model.specs.Shapes.{swaps};
-ghost use Rattle.m4_mzd.specs.Window.{content, showing};
+ghost use Rattle.m4_mzd.specs.Window.{content as bit_content, showing as bit_showing};
+ghost use Rattle.m4_mzed.specs.EWindow.{content, showing};
 ghost use Rattle.m4_perm.specs.Perm.{AreSwaps};
 ghost use Rattle.m4_ple.specs.Held.{HoldsPle};
 
@@ -45,15 +47,14 @@ impl Base for ByWords {
     }
 
     fn ple(&mut self, a: &mut EWinMut, p: &mut [u32], q: &mut [u32]) -> u32 {
-        let mut bits = a.take().into_bits();
-        let rank = ple_in_words(&mut bits, &mut self.words, p, q);
-        a.put_back(EWinMut::of_bits(bits));
-        rank
+        let _cols = a.cols();
+        ple_in_words(a, &mut self.words, p, q)
     }
 }
 
 /// Factors the window as P L E in its own place, by the words where they are enough, and answers its rank r.
-fn ple_in_words(a: &mut WinMut, words: &mut [u64], p: &mut [u32], q: &mut [u32]) -> u32
+fn ple_in_words(a: &mut EWinMut, words: &mut [u64], p: &mut [u32], q: &mut [u32]) -> u32
+    requires over_gf2 { a.old.field ≡ gf2 }
     requires exchanges { length p.old ≡ a.old.rows }
     requires pivots { (length q.old ≡ a.old.rows) ⊎ (a.old.cols ≤ length q.old) }
     ensures kept { a.new ≡ showing a.old (content a.new) }
@@ -70,7 +71,10 @@ fn ple_in_words(a: &mut WinMut, words: &mut [u64], p: &mut [u32], q: &mut [u32])
         return ple_plain(a, p, q);
     }
     let (gathered, _) = words.split_at_mut(rows);
-    ple_gathered(a, gathered, p, q)
+    let mut bits = a.take().into_bits();
+    let rank = ple_gathered(&mut bits, gathered, p, q);
+    a.put_back(EWinMut::of_bits(bits));
+    rank
 }
 
 /// Factors a window of one word a row as P L E, in the words and back in its own place, and answers its rank r.
@@ -80,13 +84,13 @@ fn ple_gathered(a: &mut WinMut, words: &mut [u64], p: &mut [u32], q: &mut [u32])
     requires gathered { length words.old ≡ a.old.rows }
     requires exchanges { length p.old ≡ a.old.rows }
     requires pivots { (length q.old ≡ a.old.rows) ⊎ (a.old.cols ≤ length q.old) }
-    ensures kept { a.new ≡ showing a.old (content a.new) }
+    ensures kept { a.new ≡ bit_showing a.old (bit_content a.new) }
     ensures exchanges { AreSwaps a.old.rows p.new }
     ensures all { length p.new ≡ length p.old }
     ensures stay { (i : ℕ) → result ≤ i → i < a.old.rows → slice_index p.new i ≡ i }
     ensures room { length q.new ≡ length q.old }
     ensures rank { result ≤ length q.new }
-    ensures factors { HoldsPle (content a.old) (swaps a.old.rows p.new) (take result q.new) (content a.new) }
+    ensures factors { HoldsPle (bit_content a.old) (swaps a.old.rows p.new) (take result q.new) (bit_content a.new) }
 {
     let cols = a.cols();
     let _rows = a.rows();

@@ -7,6 +7,7 @@
 
 mod base;
 mod bring;
+mod by_tables;
 mod by_words;
 mod exchanges;
 mod halves;
@@ -19,8 +20,9 @@ mod tests;
 
 pub use base::Base;
 pub use bring::{BY_ROWS, bring_up};
+pub use by_tables::ByTables;
 pub use by_words::ByWords;
 pub use exchanges::swap_rows_by;
 pub use halves::{Halving, ple_by_halves};
 pub use in_place::{BitHalving, ple, pluq};
-pub use plain::PlainBits;
+pub use plain::Plain;

@@ -1,25 +1,18 @@
-//! The plain elimination over GF(2), as a base.
-
-ghost use Rattle.m4_model.specs.Field.{gf2};
+//! The plain elimination over any field, as a base.
 
 use crate::base::Base;
 use m4_mzed::EWinMut;
 use m4_ple::ple_plain;
 
-/// The plain elimination of windows over GF(2).
+/// The plain elimination of windows over any field.
 #[derive(Clone, Copy)]
-pub struct PlainBits;
+pub struct Plain;
 
-impl Base for PlainBits {
-    ghost use Rattle.std.specs.Prelude.{◌≡◌};
-    ghost use Rattle.m4_model.specs.Field.{gf2};
-
-    ghost IsFor = { λ _ F. F ≡ gf2 };
+impl Base for Plain {
+    ghost IsFor = { λ _ _. Unit {0} };
 
     fn ple(&mut self, a: &mut EWinMut, p: &mut [u32], q: &mut [u32]) -> u32 {
-        let mut bits = a.take().into_bits();
-        let rank = ple_plain(&mut bits, p, q);
-        a.put_back(EWinMut::of_bits(bits));
-        rank
+        let _cols = a.cols();
+        ple_plain(a, p, q)
     }
 }

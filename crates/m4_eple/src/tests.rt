@@ -1,14 +1,16 @@
-//! PLE by halves over GF(2), multiplied out again.
+//! PLE by halves beside the plain elimination, over GF(2) and over extension fields.
 
 ghost use Rattle.std.specs.Prelude.{◌≡◌, ◌≤◌, length, IfOk};
 ghost use Rattle.m4_model.specs.Field.{gf2};
+ghost use Rattle.m4_field.specs.Fields.{the_field};
 
-use crate::{Base, ByWords, Halving, PlainBits, ple_by_halves};
+use crate::{Base, ByTables, ByWords, Halving, Plain as PlainBase, ple_by_halves};
+use m4_field::Field;
 use m4_model::NoMemory;
 use m4_mul::Plain;
 use m4_mzd::{AddMul, Mzd, mixed};
-use m4_mzed::EWinMut;
-use m4_newton::OverBits;
+use m4_mzed::{EWinMut, Mzed};
+use m4_newton::{EPlain, OverBits};
 use m4_ple::ple_plain;
 use std::alloc::Global;
 use std::test::Fail;
@@ -101,9 +103,10 @@ fn are_alike<B: Base>(
     let mut plain_p = vec![in alloc; 0u32; rows as usize]?;
     let mut plain_q = vec![in alloc; 0u32; cols as usize]?;
     let r = factor(alloc, &mut halved, &mut p, &mut q, with)?;
-    let (mut all, home) = plain.all_mut();
-    let plain_r = ple_plain(&mut all, &mut plain_p, &mut plain_q);
-    plain.put_all(all, home);
+    let (all, home) = plain.all_mut();
+    let mut window = EWinMut::of_bits(all);
+    let plain_r = ple_plain(&mut window, &mut plain_p, &mut plain_q);
+    plain.put_all(window.into_bits(), home);
     Ok(
         r <= rank
             && rank <= 2 * r
@@ -132,7 +135,7 @@ fn halves_are_alike(alloc: Global, rows: u32, cols: u32, rank: u32) -> Result<bo
 {
     let mut with = Halving {
         engine: OverBits { engine: Plain },
-        base: PlainBits,
+        base: PlainBase,
         cutoff: 64,
     };
     are_alike(alloc, rows, cols, rank, &mut with)
@@ -166,6 +169,80 @@ fn halves_and_strips_are_factored_as_the_whole(rt: HostRuntime) -> Result<(), Fa
         assert!(rt; halves_are_alike(rt.alloc(), rows, cols, rank)?);
         assert!(rt; strips_are_alike(rt.alloc(), rows, cols, rank, 64)?);
         assert!(rt; strips_are_alike(rt.alloc(), rows, cols, rank, 1000)?);
+    }
+    Ok(())
+}
+
+/// An element without an order for a place. The columns whose number has the remainder 4 on division by 5 are zeros.
+fn element(field: Field, r: u32, c: u32) -> u32
+    ensures { result < 2 ^ (the_field field).degree }
+{
+    let _degree = field.e();
+    if c % 5 == 4 {
+        return 0;
+    }
+    let word = (u64::from(r) << 32 | u64::from(c) + 1).wrapping_mul(0x9E37_79B9_7F4A_7C15);
+    (word >> 40) as u32 % (1 << field.e())
+}
+
+/// A matrix of 150 rows and 140 columns of such elements, in which every seventh row is the one above it again.
+fn elements(alloc: Global, field: Field) -> Result<Mzed, NoMemory>
+    ensures shape { IfOk result (λ m. (m.rows ≡ 150) × (m.cols ≡ 140)) }
+    ensures field { IfOk result (λ m. m.field ≡ the_field field) }
+{
+    let _width = field.width();
+    let mut m = Mzed::zeros(alloc, field, 150, 140)?;
+    for r in 0..150 {
+        put_elements(&mut m, field, r);
+    }
+    Ok(m)
+}
+
+/// Writes row `r`.
+fn put_elements(m: &mut Mzed, field: Field, r: u32)
+    requires field { m.old.field ≡ the_field field }
+    requires rows { r < m.old.rows }
+    ensures rows { m.new.rows ≡ m.old.rows }
+    ensures cols { m.new.cols ≡ m.old.cols }
+    ensures field { m.new.field ≡ m.old.field }
+{
+    let source = if r % 7 == 6 { r - 1 } else { r };
+    for c in 0..m.cols() {
+        m.put(r, c, element(field, source, c));
+    }
+}
+
+/// Whether such a matrix is factored alike by strips and tables of multiples, and row by row.
+fn tables_are_alike(alloc: Global, field: Field) -> Result<bool, NoMemory> {
+    let mut halved = elements(alloc, field)?;
+    let mut plain = elements(alloc, field)?;
+    let mut row = Mzed::zeros(alloc, field, 1, 140)?;
+    let mut with = Halving {
+        engine: EPlain,
+        base: ByTables::new(alloc, field)?,
+        cutoff: 64,
+    };
+    let (mut p, mut q) = ([0u32; 150], [0u32; 140]);
+    let (mut plain_p, mut plain_q) = ([0u32; 150], [0u32; 140]);
+    let (mut all, home) = halved.all_mut();
+    let (mut spare, spare_home) = row.all_mut();
+    let rank = ple_by_halves(&mut all, &mut p, &mut q, &mut spare, &mut with);
+    halved.put_all(all, home);
+    row.put_all(spare, spare_home);
+    let (mut whole, place) = plain.all_mut();
+    let plain_rank = ple_plain(&mut whole, &mut plain_p, &mut plain_q);
+    plain.put_all(whole, place);
+    Ok(64 < rank && rank == plain_rank && p == plain_p && q == plain_q && halved == plain)
+}
+
+// Degrees with one part of a table, and with two, and a polynomial of each.
+const FIELDS: [(u32, u32); 4] = [(2, 0x7), (8, 0x11b), (9, 0x203), (16, 0x1002b)];
+
+#[test]
+fn tables_of_multiples_factor_as_rows_do(rt: HostRuntime) -> Result<(), Fail> {
+    for case in &FIELDS {
+        let field = Field::new(case.0, case.1)?;
+        assert!(rt; tables_are_alike(rt.alloc(), field)?);
     }
     Ok(())
 }

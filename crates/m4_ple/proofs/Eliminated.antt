@@ -7,12 +7,12 @@ use Rattle.std.proofs.lemmas.Bool.{cases_lt, cases_eq, eq-eqb, ne_eqb, lt-ltb, l
 use Rattle.std.proofs.lemmas.List.{take_more_set, get_or-set_other, length-set}
 use Rattle.std.proofs.lemmas.List.FromFn.{length-range_with_len, get_or-range_with_len}
 use Rattle.std.proofs.lemmas.List.Edits.{length-swap, swapped_from_swap}
-use Rattle.m4_model.specs.Field.{Field, IsElement, gf2, mul}
+use Rattle.m4_model.specs.Field.{Field, IsElement, mul}
 use Rattle.m4_model.specs.Matrix.{Matrix, IsMatrix, HasShape, at, identity}
 use Rattle.m4_model.specs.Shapes.{swaps}
 use Rattle.m4_model.specs.Factors.{IsUnitLower, IsPle, stored}
 use Rattle.m4_model.proofs.FieldLaws.{FieldLaws}
-use Rattle.m4_model.proofs.Gf2Lemmas.{gf2_laws, bit_cases}
+use Rattle.m4_model.proofs.FieldProofs.{field_laws}
 use Rattle.m4_model.proofs.MatrixLemmas.{at-table}
 use Rattle.m4_model.proofs.ProductLemmas.{unit_at, unit_at-same, unit_at-other}
 use Rattle.m4_model.proofs.ShapeLemmas.{at_shape, HasShape-own, HasShape-matrix_of, IsField-shape, IsElement-shape, same_from_entries}
@@ -20,7 +20,7 @@ use Rattle.m4_model.proofs.SumLemmas.{mul-zero_left}
 use Rattle.m4_model.proofs.RingLemmas.{HasShape-one, IsElement-unit_at}
 use Rattle.m4_model.proofs.ExchangeLemmas.{rising_room}
 use Rattle.m4_model.proofs.EliminationLemmas.{IsPartial, ple_from_partial, partial_start, partial_skip, partial_swap, partial_pivot, exchange, exchange-first, exchange-other, exchange_elim}
-use Rattle.m4_ple.specs.Elimination.{IsEliminated, lower_part, upper_part, cleared, cleared_entry, with_swapped}
+use Rattle.m4_ple.specs.Elimination.{IsEliminated, lower_part, upper_part, cleared, cleared_entry, factor_of, with_swapped}
 use Rattle.m4_ple.specs.Held.{HoldsPle}
 use Rattle.m4_ple.proofs.Clearing.{cleared-none, cleared-factor, cleared-column, cleared-before, cleared-after, at-cleared_other, at-cleared_row}
 use Rattle.m4_ple.proofs.Exchanges.{swaps-more, swaps-range, AreSwaps-range, AreSwaps-more}
@@ -97,10 +97,10 @@ module _ (F : Field) (m n r : ℕ) (W : Matrix) where
         (cases_eq i j))
 
 -- at the start nothing is eliminated
-pub eliminated_start : (A : Matrix) (q : List ℕ) → A.field ≡ gf2 → IsMatrix A → IsEliminated A (range_with_len 0 A.rows) q 0 0 A
+pub eliminated_start : (A : Matrix) (q : List ℕ) → IsMatrix A → IsEliminated A (range_with_len 0 A.rows) q 0 0 A
 unfolding lower_at upper_at
-eliminated_start A q over matrix =
-    let laws : FieldLaws A.field = subst FieldLaws (sym over) gf2_laws in
+eliminated_start A q matrix =
+    let laws = field_laws A.field matrix.over_field in
     let own = HasShape-own A matrix in
     let lower : identity A.field A.rows ≡ lower_part A.field A.rows 0 A
     = same_from_entries (HasShape-one A.field A.rows matrix.over_field) (lower_at A.field A.rows A.cols 0 A) (λ i j in_rows in_cols.
@@ -111,7 +111,6 @@ eliminated_start A q over matrix =
     let upper : A ≡ upper_part A.field A.rows A.cols 0 A
     = same_from_entries own (upper_at A.field A.rows A.cols 0 A) (λ i j in_rows in_cols. sym (upper_at-held A.field A.rows A.cols 0 A i j (inr (omega arith)))) in
     record {
-      over = over;
       shape = own;
       partial = subst (λ (L : Matrix). IsPartial A (swaps A.rows (range_with_len 0 A.rows)) (take 0 q) 0 0 L (upper_part A.field A.rows A.cols 0 A)) lower
           (subst (λ (S : Matrix). IsPartial A (swaps A.rows (range_with_len 0 A.rows)) (take 0 q) 0 0 (identity A.field A.rows) S) upper
@@ -124,7 +123,7 @@ eliminated_start A q over matrix =
 
 module _ {A W : Matrix} {p q : List ℕ} {r c : ℕ} (old : IsEliminated A p q r c W) where
   laws_of : FieldLaws A.field
-  laws_of = subst FieldLaws (sym old.over) gf2_laws
+  laws_of = field_laws A.field (IsField-shape old.shape)
 
   -- there are no more pivots than columns
   pub rank_reached : r ≤ c
@@ -134,7 +133,6 @@ module _ {A W : Matrix} {p q : List ℕ} {r c : ℕ} (old : IsEliminated A p q r
   -- a column without a pivot
   pub eliminated_skip : c < A.cols → ((i : ℕ) → r ≤ i → i < A.rows → at W i c ≡ 0) → IsEliminated A p q r (c + 1) W
   eliminated_skip inside none = record {
-    over = old.over;
     shape = old.shape;
     partial = partial_skip A (swaps A.rows p) (take r q) r c (lower_part A.field A.rows r W) (upper_part A.field A.rows A.cols r W) old.partial inside
         (λ i from below.
@@ -262,42 +260,50 @@ module _ {A W : Matrix} {p q : List ℕ} {r c : ℕ} (old : IsEliminated A p q r
       ])
 
 -- a cleared entry is an element
-IsElement-cleared : {F : Field} {m n : ℕ} (V : Matrix) → HasShape F m n V → (r c i j : ℕ) → r < m → i < m → j < n
-    → IsElement F (cleared_entry r c V i j)
-IsElement-cleared {F} {m} {n} V v r c i j first below within =
+IsElement-cleared : {F : Field} {m n : ℕ} (V : Matrix) → HasShape F m n V → (inverse r c i j : ℕ) → IsElement F inverse → r < m → i < m → c < n → j < n
+    → IsElement F (cleared_entry inverse r c V i j)
+IsElement-cleared {F} {m} {n} V v inverse r c i j element first below column within =
+    let laws = field_laws F (IsField-shape v) in
     let own = IsElement-shape v i j below within in
-    let other = IsElement-shape v r j first within in
-    from_tests (at V i c == 0) (j == r) (j == c) (nat_lt j c) own (subst (IsElement F) (unit_at-same i i refl) (IsElement-unit_at F (IsField-shape v) i i))
-    (pow_pos F.degree) (xor_lt F.degree (at V i j) (at V r j) own other)
+    let factor : IsElement F (factor_of inverse c V i)
+    = subst (λ (G : Field). IsElement F (mul G (at V i c) inverse)) (sym v.over) (laws.closed (at V i c) inverse (IsElement-shape v i c below column) element) in
+    let multiple : IsElement F (mul V.field (at V r j) (factor_of inverse c V i))
+    = subst (λ (G : Field). IsElement F (mul G (at V r j) (factor_of inverse c V i))) (sym v.over) (laws.closed (at V r j) (factor_of inverse c V i) (IsElement-shape v r j first within) factor) in
+    from_tests (at V i c == 0) (j == r) (j == c) (nat_lt j c) own factor
+    (pow_pos F.degree) (xor_lt F.degree (at V i j) (mul V.field (at V r j) (factor_of inverse c V i)) own multiple)
   where
-    from_tests : (a b d e : Bool) → IsElement F (at V i j) → IsElement F 1 → IsElement F 0 → IsElement F (bit_xor (at V i j) (at V r j))
-        → IsElement F (if a then at V i j else if b then 1 else if d then 0 else if e then at V i j else bit_xor (at V i j) (at V r j))
+    from_tests : (a b d e : Bool) {x y z : ℕ} → IsElement F x → IsElement F y → IsElement F 0 → IsElement F z
+        → IsElement F (if a then x else if b then y else if d then 0 else if e then x else z)
     from_tests true b d e own one none sum = own
     from_tests false true d e own one none sum = one
     from_tests false false true e own one none sum = none
     from_tests false false false true own one none sum = own
     from_tests false false false false own one none sum = sum
 
-pub HasShape-cleared : {F : Field} {m n : ℕ} (V : Matrix) → HasShape F m n V → (r c k : ℕ) → r < m → HasShape F m n (cleared r c k V)
-HasShape-cleared {F} {m} {n} V v r c k first =
+pub HasShape-cleared : {F : Field} {m n : ℕ} (V : Matrix) → HasShape F m n V → (inverse r c k : ℕ) → IsElement F inverse → r < m → c < n
+    → HasShape F m n (cleared inverse r c k V)
+HasShape-cleared {F} {m} {n} V v inverse r c k element first column =
     let rows = v.rows in
-    at_shape v (λ F m n. HasShape F m n (cleared r c k V))
-    (HasShape-matrix_of V.field V.rows V.cols (λ i j. if nat_lt r i && nat_lt i k then cleared_entry r c V i j else at V i j) v.is_matrix.over_field
+    let cols = v.cols in
+    at_shape v (λ F m n. HasShape F m n (cleared inverse r c k V))
+    (HasShape-matrix_of V.field V.rows V.cols (λ i j. if nat_lt r i && nat_lt i k then cleared_entry inverse r c V i j else at V i j) v.is_matrix.over_field
     (λ i j below within.
-    from_test (nat_lt r i && nat_lt i k) (IsElement-cleared V (HasShape-own V v.is_matrix) r c i j (omega (arith, first, rows)) below within)
+    from_test (nat_lt r i && nat_lt i k)
+    (IsElement-cleared V (HasShape-own V v.is_matrix) inverse r c i j (subst (λ (G : Field). IsElement G inverse) (sym v.over) element) (omega (arith, first, rows)) below (omega (arith, column, cols)) within)
     (v.is_matrix.elements i j below within)))
   where
     from_test : (a : Bool) {x y : ℕ} → IsElement V.field x → IsElement V.field y → IsElement V.field (if a then x else y)
     from_test true first second = first
     from_test false first second = second
 
-module _ {A W : Matrix} {p q : List ℕ} {r c : ℕ} (old : IsEliminated A p q r c W) (s : ℕ) (order : r ≤ s) (below : s < A.rows) (inside : c < A.cols) (one : at W s c ≡ 1) where
+module _ {A W : Matrix} {p q : List ℕ} {r c : ℕ} (old : IsEliminated A p q r c W) (s : ℕ) (order : r ≤ s) (below : s < A.rows) (inside : c < A.cols)
+    (inverse : ℕ) (element : IsElement A.field inverse) (inverts : mul A.field (at W s c) inverse ≡ 1) where
   V : Matrix
   V = with_swapped W r s
 
   C : Matrix
   unfolding V
-  C = cleared r c W.rows V
+  C = cleared inverse r c W.rows V
 
   v : HasShape A.field A.rows A.cols V
   unfolding V Moved
@@ -313,10 +319,16 @@ module _ {A W : Matrix} {p q : List ℕ} {r c : ℕ} (old : IsEliminated A p q r
   unfolding V Moved
   partial = swapped_partial old s order below
 
-  -- the pivot
-  pivot_one : at V r c ≡ 1
+  -- the pivot and its inverse
+  pivot_inverted : mul A.field (at V r c) inverse ≡ 1
   unfolding V Moved
-  pivot_one = at_moved old s order below r c ∙ ap (λ (i : ℕ). at W i c) (exchange-first r s) ∙ one
+  pivot_inverted =
+      ap (λ (x : ℕ). mul A.field x inverse) (at_moved old s order below r c ∙ ap (λ (i : ℕ). at W i c) (exchange-first r s)) ∙ inverts
+
+  pivot_some : at V r c ≢ 0
+  pivot_some none =
+      let one : 0 ≡ 1 = sym (ap (λ (x : ℕ). mul A.field x inverse) none ∙ mul-zero_left A.field (laws_of old) inverse) ∙ pivot_inverted in
+      absurd (omega (arith, one))
 
   -- what is cleared already
   blank : (i j : ℕ) → r ≤ i → i < A.rows → r ≤ j → j < c → at V i j ≡ 0
@@ -324,92 +336,112 @@ module _ {A W : Matrix} {p q : List ℕ} {r c : ℕ} (old : IsEliminated A p q r
       sym (at-upper A.field A.rows A.cols r V i j in_rows (omega (arith, left, inside)) ∙ upper_at-held A.field A.rows A.cols r V i j (inr right))
       ∙ partial.below i j from in_rows left
 
-  -- each row is to be cleared or isn't
-  bit : (i : ℕ) → i < A.rows → (at V i c ≡ 0) ⊎ (at V i c ≡ 1)
-  bit i in_rows = bit_cases (at V i c) (subst (λ (F : Field). IsElement F (at V i c)) old.over (IsElement-shape v i c in_rows inside))
+  -- the factors, which times the pivot are the entries to be cleared
+  factor : ℕ → ℕ
+  factor i = mul A.field (at V i c) inverse
+
+  factor-of : (i : ℕ) → factor_of inverse c V i ≡ factor i
+  unfolding factor V
+  factor-of i = ap (λ (F : Field). mul F (at V i c) inverse) v.over
+
+  factor-none : (i : ℕ) → at V i c ≡ 0 → factor i ≡ 0
+  unfolding factor
+  factor-none i none = ap (λ (x : ℕ). mul A.field x inverse) none ∙ mul-zero_left A.field (laws_of old) inverse
+
+  factor-pivot : (i : ℕ) → i < A.rows → mul A.field (factor i) (at V r c) ≡ at V i c
+  unfolding factor
+  factor-pivot i in_rows =
+      let laws = laws_of old in
+      let x = at V i c in
+      laws.assoc x inverse (at V r c)
+      ∙ ap (mul A.field x) (laws.comm inverse (at V r c) ∙ pivot_inverted)
+      ∙ laws.comm x 1 ∙ laws.unit x (IsElement-shape v i c in_rows inside)
 
   c_upper : (i j : ℕ) → i ≤ r → j < A.cols → at C i j ≡ at V i j
   unfolding C
   c_upper i j high within =
       let rows = v.rows in
       let cols = v.cols in
-      at-cleared_other r c V W.rows i j (omega (arith, high, first, rows)) (omega (arith, within, cols)) (inl high)
+      at-cleared_other inverse r c V W.rows i j (omega (arith, high, first, rows)) (omega (arith, within, cols)) (inl high)
 
-  c_below : (i j : ℕ) → r < i → i < A.rows → j < A.cols → at C i j ≡ cleared_entry r c V i j
+  c_below : (i j : ℕ) → r < i → i < A.rows → j < A.cols → at C i j ≡ cleared_entry inverse r c V i j
   unfolding C V
   c_below i j low in_rows within =
       let rows = v.rows in
       let cols = v.cols in
-      at-cleared_row r c V W.rows i j (omega (arith, in_rows, rows)) (omega (arith, within, cols)) low (omega (arith, in_rows, rows))
+      at-cleared_row inverse r c V W.rows i j (omega (arith, in_rows, rows)) (omega (arith, within, cols)) low (omega (arith, in_rows, rows))
 
   -- L's columns stay
   c_left : (i j : ℕ) → i < A.rows → j < r → at C i j ≡ at V i j
   c_left i j in_rows left = ⊎_elim
       (λ (low : r < i). c_below i j low in_rows (omega (arith, left, reached, inside)) ∙ ⊎_elim
-      (λ (none : at V i c ≡ 0). cleared-none r c V i j none)
-      (λ (some : at V i c ≡ 1). cleared-before r c V i some j (λ same. absurd (omega (arith, same, left))) (omega (arith, left, reached)))
-      (bit i in_rows))
+      (λ (none : at V i c ≡ 0). cleared-none inverse r c V i j none)
+      (λ (some : at V i c ≢ 0). cleared-before inverse r c V i some j (λ same. absurd (omega (arith, same, left))) (omega (arith, left, reached)))
+      (cases_eq (at V i c) 0))
       (λ (high : i ≤ r). c_upper i j high (omega (arith, left, reached, inside)))
       (cases_lt r i)
 
   c_shape : HasShape A.field A.rows A.cols C
   unfolding C V
-  c_shape = HasShape-cleared V v r c W.rows first
+  c_shape = HasShape-cleared V v inverse r c W.rows element first inside
 
   -- the factors stand in column r
-  factor : (i : ℕ) → r < i → i < A.rows → at C i r ≡ at V i c
-  factor i low in_rows = c_below i r low in_rows (omega (arith, reached, inside)) ∙ ⊎_elim
-      (λ (none : at V i c ≡ 0). cleared-none r c V i r none ∙ ⊎_elim
-      (λ (left : r < c). blank i r (omega (arith, low)) in_rows (let e : r ≤ r = omega arith in e) left ∙ sym none)
-      (λ (here : c ≤ r). let same : r ≡ c = omega (arith, here, reached) in ap (at V i) same)
-      (cases_lt r c))
-      (λ (some : at V i c ≡ 1). cleared-factor r c V i some r refl ∙ sym some)
-      (bit i in_rows)
+  c_factor : (i : ℕ) → r < i → i < A.rows → at C i r ≡ factor i
+  c_factor i low in_rows = c_below i r low in_rows (omega (arith, reached, inside)) ∙ ⊎_elim
+      (λ (none : at V i c ≡ 0). cleared-none inverse r c V i r none ∙ ⊎_elim
+      (λ (left : r < c). blank i r (omega (arith, low)) in_rows (let e : r ≤ r = omega arith in e) left)
+      (λ (here : c ≤ r). let same : r ≡ c = omega (arith, here, reached) in ap (at V i) same ∙ none)
+      (cases_lt r c) ∙ sym (factor-none i none))
+      (λ (some : at V i c ≢ 0). cleared-factor inverse r c V i some r refl ∙ factor-of i)
+      (cases_eq (at V i c) 0)
 
   -- the rows below, where a multiple of row r is added
   upper_below : (i j : ℕ) → r < i → i < A.rows → j < A.cols
-      → upper_at A.field A.rows A.cols (r + 1) C i j ≡ bit_xor (upper_at A.field A.rows A.cols r V i j) (mul A.field (at V i c) (upper_at A.field A.rows A.cols r V r j))
+      → upper_at A.field A.rows A.cols (r + 1) C i j ≡ bit_xor (upper_at A.field A.rows A.cols r V i j) (mul A.field (factor i) (upper_at A.field A.rows A.cols r V r j))
   upper_below i j low in_rows within =
       let F = A.field in
       let m = A.rows in
       let n = A.cols in
+      let laws = laws_of old in
+      let here_first : r ≤ r = omega arith in
       let held : (k : ℕ) → r ≤ k → upper_at F m n r V i k ≡ at V i k = λ k right. upper_at-held F m n r V i k (inr right) in
       let held_first : (k : ℕ) → r ≤ k → upper_at F m n r V r k ≡ at V r k = λ k right. upper_at-held F m n r V r k (inr right) in
-      let unit : (k : ℕ) → k < n → mul F 1 (at V r k) ≡ at V r k = λ k right. (laws_of old).unit (at V r k) (IsElement-shape v r k first right) in
-      let nothing : (k : ℕ) → mul F 0 (at V r k) ≡ 0 = λ k. mul-zero_left F (laws_of old) (at V r k) in
+      let blank_sum : (k : ℕ) → r ≤ k → k < c → bit_xor (at V i k) (mul F (factor i) (at V r k)) ≡ 0
+      = λ k right left.
+      ap₂ bit_xor (blank i k (omega (arith, low)) in_rows right left)
+      (ap (mul F (factor i)) (blank r k here_first first right left) ∙ laws.annihilates (factor i)) ∙ xor_zero_r 0 in
+      let pivot_sum : bit_xor (at V i c) (mul F (factor i) (at V r c)) ≡ 0
+      = ap (bit_xor (at V i c)) (factor-pivot i in_rows) ∙ xor_self (at V i c) in
       ⊎_elim
       (λ (left : j < r).
       upper_at-zero F m n (r + 1) C i j (omega (arith, left, low)) (omega (arith, left))
       ∙ sym (ap₂ bit_xor (upper_at-zero F m n r V i j (omega (arith, left, low)) left)
-      (ap (mul F (at V i c)) (upper_at-zero F m n r V r j left left) ∙ (laws_of old).annihilates (at V i c)) ∙ xor_zero_r 0))
+      (ap (mul F (factor i)) (upper_at-zero F m n r V r j left left) ∙ laws.annihilates (factor i)) ∙ xor_zero_r 0))
       (λ (right : r ≤ j). ⊎_elim
       (λ (here : j ≡ r).
       upper_at-zero F m n (r + 1) C i j (omega (arith, here, low)) (omega (arith, here))
       ∙ sym (rw (held j right, held_first j right) (⊎_elim
-      (λ (left : r < c). ap₂ bit_xor (blank i j (omega (arith, low)) in_rows right (omega (arith, here, left)))
-      (ap (mul F (at V i c)) (blank r j (let e : r ≤ r = omega arith in e) first right (omega (arith, here, left))) ∙ (laws_of old).annihilates (at V i c)) ∙ xor_zero_r 0)
-      (λ (at_pivot : c ≤ r).
-      let same : j ≡ c = omega (arith, here, at_pivot, reached) in
-      rw (same, pivot_one) (⊎_elim
-      (λ (none : at V i c ≡ 0). rw none (ap (bit_xor 0) (mul-zero_left F (laws_of old) 1) ∙ xor_zero_r 0))
-      (λ (some : at V i c ≡ 1). rw some (ap (bit_xor 1) (ap (mul F 1) (sym pivot_one) ∙ unit c inside ∙ pivot_one) ∙ xor_self 1))
-      (bit i in_rows)))
+      (λ (left : r < c). blank_sum j right (omega (arith, here, left)))
+      (λ (at_pivot : c ≤ r). let same : j ≡ c = omega (arith, here, at_pivot, reached) in rw same pivot_sum)
       (cases_lt r c))))
       (λ (away : j ≢ r).
       upper_at-held F m n (r + 1) C i j (inr (omega (arith, right, away)))
       ∙ c_below i j low in_rows within
       ∙ sym (rw (held j right, held_first j right) (⊎_elim
-      (λ (none : at V i c ≡ 0). ap (bit_xor (at V i j)) (ap (λ (x : ℕ). mul F x (at V r j)) none ∙ nothing j) ∙ xor_zero_r (at V i j) ∙ sym (cleared-none r c V i j none))
-      (λ (some : at V i c ≡ 1).
-      ap (bit_xor (at V i j)) (ap (λ (x : ℕ). mul F x (at V r j)) some ∙ unit j within)
-      ∙ ⊎_elim
-      (λ (column : j ≡ c). rw column (ap₂ bit_xor some pivot_one ∙ xor_self 1) ∙ sym (cleared-column r c V i some j away column))
+      (λ (none : at V i c ≡ 0).
+      ap (bit_xor (at V i j)) (ap (λ (x : ℕ). mul F x (at V r j)) (factor-none i none) ∙ mul-zero_left F laws (at V r j))
+      ∙ xor_zero_r (at V i j) ∙ sym (cleared-none inverse r c V i j none))
+      (λ (some : at V i c ≢ 0). ⊎_elim
+      (λ (column : j ≡ c). rw column pivot_sum ∙ sym (cleared-column inverse r c V i some j away column))
       (λ (not_column : j ≢ c). ⊎_elim
-      (λ (before : j < c). ap (bit_xor (at V i j)) (blank r j (let e : r ≤ r = omega arith in e) first right before) ∙ xor_zero_r (at V i j) ∙ sym (cleared-before r c V i some j away before))
-      (λ (from : c ≤ j). sym (cleared-after r c V i some j away (omega (arith, from, not_column))))
+      (λ (before : j < c). blank_sum j right before
+      ∙ sym (cleared-before inverse r c V i some j away before ∙ blank i j (omega (arith, low)) in_rows right before))
+      (λ (from : c ≤ j).
+      ap (bit_xor (at V i j)) (laws.comm (factor i) (at V r j) ∙ ap₂ (λ (G : Field) (x : ℕ). mul G (at V r j) x) (sym v.over) (sym (factor-of i)))
+      ∙ sym (cleared-after inverse r c V i some j away (omega (arith, from, not_column))))
       (cases_lt j c))
       (cases_eq j c))
-      (bit i in_rows))))
+      (cases_eq (at V i c) 0))))
       (cases_eq j r))
       (cases_lt j r)
 
@@ -420,8 +452,8 @@ module _ {A W : Matrix} {p q : List ℕ} {r c : ℕ} (old : IsEliminated A p q r
       let m = A.rows in
       let n = A.cols in
       partial_pivot A (swap (swaps A.rows p) r s) (take r q) r c (lower_part F m r V) (upper_part F m n r V) (lower_part F m (r + 1) C) (upper_part F m n (r + 1) C)
-      (λ i. at V i c) (laws_of old) partial first inside
-      (λ none. absurd (omega (arith, sym (at-upper F m n r V r c first inside ∙ upper_at-held F m n r V r c (inl reached)) ∙ none, pivot_one)))
+      factor (laws_of old) partial first inside
+      (λ none. pivot_some (sym (at-upper F m n r V r c first inside ∙ upper_at-held F m n r V r c (inl reached)) ∙ none))
       (HasShape-lower F m n (r + 1) C c_shape (omega (arith, reached, inside))) (HasShape-upper F m n (r + 1) C c_shape)
       (λ i j in_rows in_cols other.
       at-lower F m n (r + 1) C i j in_rows in_cols
@@ -443,7 +475,7 @@ module _ {A W : Matrix} {p q : List ℕ} {r c : ℕ} (old : IsEliminated A p q r
       (λ (apart : i ≢ r). lower_at-zero F m n (r + 1) C i r (inl (omega (arith, high, apart))) ∙ sym (lower_at-zero F m n r V i r (inl (omega (arith, high, apart)))))
       (cases_eq i r)
       ∙ sym (at-lower F m n r V i r (omega (arith, high, first)) first))
-      (λ i low in_rows. at-lower F m n (r + 1) C i r in_rows first ∙ lower_at-held F m n (r + 1) C i r low (omega arith) ∙ factor i low in_rows)
+      (λ i low in_rows. at-lower F m n (r + 1) C i r in_rows first ∙ lower_at-held F m n (r + 1) C i r low (omega arith) ∙ c_factor i low in_rows)
       (λ i j high within.
       let in_rows : i < m = omega (arith, high, first) in
       at-upper F m n (r + 1) C i j in_rows within
@@ -455,7 +487,7 @@ module _ {A W : Matrix} {p q : List ℕ} {r c : ℕ} (old : IsEliminated A p q r
       (λ i j low in_rows within.
       at-upper F m n (r + 1) C i j in_rows within
       ∙ upper_below i j low in_rows within
-      ∙ sym (ap₂ bit_xor (at-upper F m n r V i j in_rows within) (ap (mul F (at V i c)) (at-upper F m n r V r j first within))))
+      ∙ sym (ap₂ bit_xor (at-upper F m n r V i j in_rows within) (ap (mul F (factor i)) (at-upper F m n r V r j first within))))
       (λ i low in_rows.
       at-upper F m n (r + 1) C i c in_rows inside
       ∙ ⊎_elim
@@ -463,16 +495,15 @@ module _ {A W : Matrix} {p q : List ℕ} {r c : ℕ} (old : IsEliminated A p q r
       upper_at-held F m n (r + 1) C i c (inr (omega (arith, left)))
       ∙ c_below i c low in_rows inside
       ∙ ⊎_elim
-      (λ (none : at V i c ≡ 0). cleared-none r c V i c none ∙ none)
-      (λ (some : at V i c ≡ 1). cleared-column r c V i some c (λ same. absurd (omega (arith, same, left))) refl)
-      (bit i in_rows))
+      (λ (none : at V i c ≡ 0). cleared-none inverse r c V i c none ∙ none)
+      (λ (some : at V i c ≢ 0). cleared-column inverse r c V i some c (λ same. absurd (omega (arith, same, left))) refl)
+      (cases_eq (at V i c) 0))
       (λ (here : c ≤ r). upper_at-zero F m n (r + 1) C i c (omega (arith, here, low)) (omega (arith, here)))
       (cases_lt r c))
 
-  pub eliminated_pivot : r < length q → IsEliminated A (set p r s) (set q r c) (r + 1) (c + 1) (cleared r c W.rows (with_swapped W r s))
+  pub eliminated_pivot : r < length q → IsEliminated A (set p r s) (set q r c) (r + 1) (c + 1) (cleared inverse r c W.rows (with_swapped W r s))
   unfolding C V
   eliminated_pivot room = record {
-    over = old.over;
     shape = c_shape;
     partial = subst (λ (found : List ℕ). IsPartial A (swaps A.rows (set p r s)) found (r + 1) (c + 1) (lower_part A.field A.rows (r + 1) C) (upper_part A.field A.rows A.cols (r + 1) C))
         (sym (take_more_set q r c room))

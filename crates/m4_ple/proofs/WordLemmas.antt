@@ -7,16 +7,17 @@ use Rattle.std.proofs.lemmas.Bool.{cases_lt, cases_eq, eq-eqb, ne_eqb, lt-ltb, l
 use Rattle.std.proofs.lemmas.List.{length-set, get_or-set_same, get_or-set_other}
 use Rattle.std.proofs.lemmas.List.Edits.{length-swap, swapped_from_swap}
 use Rattle.std.specs.Int.Bits.{xor_zero_r}
-use Rattle.m4_model.specs.Field.{gf2}
+use Rattle.m4_model.specs.Field.{IsElement, gf2, mul}
 use Rattle.m4_model.specs.Matrix.{HasShape, at, matrix_of}
 use Rattle.m4_model.proofs.FieldLemmas.{gf2_field}
+use Rattle.m4_model.proofs.Gf2Lemmas.{gf2_laws}
 use Rattle.m4_model.proofs.ShapeLemmas.{HasShape-matrix_of, at-matrix_of, same_entries, same_from_entries}
 use Rattle.m4_model.proofs.EliminationLemmas.{exchange, exchange_elim}
 use Rattle.m4_bits.proofs.BitsLemmas.{bit_at-xor}
 use Rattle.m4_bits.proofs.TransposeLemmas.{bit_at-shr, bit_at-mod, bit_at-shl_low, bit_at-shl_high}
 use Rattle.m4_ple.specs.Elimination.{cleared, cleared_entry, with_swapped}
 use Rattle.m4_ple.specs.Words.{word_matrix, cleared_bit, IsClearedTo}
-use Rattle.m4_ple.proofs.Clearing.{at-cleared_other, at-cleared_row}
+use Rattle.m4_ple.proofs.Clearing.{cleared-none, at-cleared_other, at-cleared_row}
 use Rattle.m4_ple.proofs.Eliminated.{at-swapped, exchange-within, HasShape-swapped, HasShape-cleared}
 
 module _ (cols : ℕ) (words : List ℕ) where
@@ -45,29 +46,53 @@ words_swapped cols words r s first second =
     ∙ at-words cols words (exchange r s i) j (exchange-within r s i (length words) first second in_rows) in_cols
     ∙ ap (λ w. bit_at w j) (sym (word_swap words r s i first second))))
 
+-- over GF(2) the one is the inverse of the one, and a factor
+pub one_element : IsElement gf2 1
+one_element = omega arith
+
+pub times_one : (x : ℕ) → IsElement gf2 x → mul gf2 x 1 ≡ x
+times_one x element = gf2_laws.comm x 1 ∙ gf2_laws.unit x element
+
 -- an entry is cleared as the bit is
 entry_cleared : (cols : ℕ) (words : List ℕ) (r c i j : ℕ) → r < length words → i < length words → c < cols → j < cols
-    → cleared_entry r c (word_matrix cols words) i j ≡ cleared_bit r c (get_or words i 0) (get_or words r 0) j
+    → cleared_entry 1 r c (word_matrix cols words) i j ≡ cleared_bit r c (get_or words i 0) (get_or words r 0) j
 entry_cleared cols words r c i j first below column within =
-    rw (at-words cols words i c below column, at-words cols words i j below within, at-words cols words r j first within) refl
+    let word = get_or words i 0 in
+    let pivot = get_or words r 0 in
+    ⊎_elim
+    (λ (none : bit_at word c ≡ 0).
+    cleared-none 1 r c (word_matrix cols words) i j (at-words cols words i c below column ∙ none)
+    ∙ at-words cols words i j below within ∙ sym (rw (eq-eqb (bit_at word c) 0 none) refl))
+    (λ (some : bit_at word c ≢ 0).
+    let small = bit_at-lt word c in
+    let one : bit_at word c ≡ 1 = omega (arith, small, some) in
+    rw (
+      at-words cols words i c below column,
+      at-words cols words i j below within,
+      at-words cols words r j first within,
+      one,
+      times_one 1 one_element,
+      times_one (bit_at pivot j) (bit_at-lt pivot j),
+    ) refl)
+    (cases_eq (bit_at word c) 0)
 
 -- words cleared below a row are the matrix cleared below it
 pub words_cleared : (cols : ℕ) (old now : List ℕ) (r c : ℕ) → cols ≤ 64 → c < cols → r < length old → IsClearedTo r c (length old) old now
-    → word_matrix cols now ≡ cleared r c (length old) (word_matrix cols old)
+    → word_matrix cols now ≡ cleared 1 r c (length old) (word_matrix cols old)
 words_cleared cols old now r c narrow column first made =
     let W = word_matrix cols old in
     let long = made.long in
     let shape : HasShape gf2 (length old) cols (word_matrix cols now) = subst (λ m. HasShape gf2 m cols (word_matrix cols now)) long (HasShape-words cols now) in
-    same_entries shape (HasShape-cleared W (HasShape-words cols old) r c (length old) first)
+    same_entries shape (HasShape-cleared W (HasShape-words cols old) 1 r c (length old) one_element first column)
     (λ i j in_rows in_cols.
     at-words cols now i j (omega (arith, in_rows, long)) in_cols
     ∙ ⊎_elim
     (λ (low : r < i). made.done i j low in_rows (omega (arith, in_cols, narrow))
     ∙ sym (entry_cleared cols old r c i j first in_rows column in_cols)
-    ∙ sym (at-cleared_row r c W (length old) i j in_rows in_cols low in_rows))
+    ∙ sym (at-cleared_row 1 r c W (length old) i j in_rows in_cols low in_rows))
     (λ (high : i ≤ r). ap (λ w. bit_at w j) (made.kept i (inl high))
     ∙ sym (at-words cols old i j in_rows in_cols)
-    ∙ sym (at-cleared_other r c W (length old) i j in_rows in_cols (inl high)))
+    ∙ sym (at-cleared_other 1 r c W (length old) i j in_rows in_cols (inl high)))
     (cases_lt r i))
 
 -- no word is cleared at first

@@ -1,7 +1,7 @@
 -- Elimination in place: what one matrix holds while its columns are gone through.
 use Rattle.std.specs.Prelude.{◌≡◌, ℕ, ◌<◌, ◌≤◌, List, length, take, swap, slice_index, map, bit_xor, nat_lt, ◌==◌, ◌&&◌, if◌then◌else◌}
 use Rattle.std.specs.List.{range_with_len}
-use Rattle.m4_model.specs.Field.{Field, gf2}
+use Rattle.m4_model.specs.Field.{Field, mul}
 use Rattle.m4_model.specs.Matrix.{Matrix, HasShape, at, matrix_of}
 use Rattle.m4_model.specs.Shapes.{swaps}
 use Rattle.m4_model.proofs.EliminationLemmas.{IsPartial}
@@ -15,33 +15,36 @@ lower_part F m r W = matrix_of F m m (λ i j. if i == j then 1 else if nat_lt j 
 abbrev pub upper_part : Field → ℕ → ℕ → ℕ → Matrix → Matrix
 upper_part F m n r W = matrix_of F m n (λ i j. if nat_lt j i && nat_lt j r then 0 else at W i j)
 
--- The first c columns of A, a matrix over GF(2), are eliminated in W, with r pivots: the first r numbers of q. The
--- exchanges of rows are p.
+-- The first c columns of A are eliminated in W, with r pivots: the first r numbers of q. The exchanges of rows are p.
 pub record IsEliminated (A : Matrix) (p q : List ℕ) (r c : ℕ) (W : Matrix) : Type 0 where
-  pub over : A.field ≡ gf2
   pub shape : HasShape A.field A.rows A.cols W
   pub partial : IsPartial A (swaps A.rows p) (take r q) r c (lower_part A.field A.rows r W) (upper_part A.field A.rows A.cols r W)
   pub exchanges : AreSwaps A.rows p
   pub all : length p ≡ A.rows
   pub stay : (i : ℕ) → r ≤ i → i < A.rows → slice_index p i ≡ i
 
--- Entry j of row i once row r is added to it where it has a one in column c, from the next column on: the factor then
--- stands in column r.
-abbrev pub cleared_entry : ℕ → ℕ → Matrix → ℕ → ℕ → ℕ
-cleared_entry r c W i j =
+-- The factor of row r that clears row i in column c, where the pivot of row r has this inverse.
+abbrev pub factor_of : ℕ → ℕ → Matrix → ℕ → ℕ
+factor_of inverse c W i = mul W.field (at W i c) inverse
+
+-- Entry j of row i once that multiple of row r is added to it which clears it in column c, from the next column on: the
+-- factor then stands in column r. A row that has a zero there stays.
+abbrev pub cleared_entry : ℕ → ℕ → ℕ → Matrix → ℕ → ℕ → ℕ
+cleared_entry inverse r c W i j =
     if at W i c == 0 then at W i j
-    else if j == r then 1
+    else if j == r then factor_of inverse c W i
     else if j == c then 0
     else if nat_lt j c then at W i j
-    else bit_xor (at W i j) (at W r j)
+    else bit_xor (at W i j) (mul W.field (at W r j) (factor_of inverse c W i))
 
 -- Row i so.
-abbrev pub cleared_row : ℕ → ℕ → Matrix → ℕ → List ℕ
-cleared_row r c W i = map (cleared_entry r c W i) (range_with_len 0 W.cols)
+abbrev pub cleared_row : ℕ → ℕ → ℕ → Matrix → ℕ → List ℕ
+cleared_row inverse r c W i = map (cleared_entry inverse r c W i) (range_with_len 0 W.cols)
 
 -- The rows below row r and above row k so.
-abbrev pub cleared : ℕ → ℕ → ℕ → Matrix → Matrix
-cleared r c k W = matrix_of W.field W.rows W.cols (λ i j. if nat_lt r i && nat_lt i k then cleared_entry r c W i j else at W i j)
+abbrev pub cleared : ℕ → ℕ → ℕ → ℕ → Matrix → Matrix
+cleared inverse r c k W =
+    matrix_of W.field W.rows W.cols (λ i j. if nat_lt r i && nat_lt i k then cleared_entry inverse r c W i j else at W i j)
 
 -- W with rows r and s exchanged.
 abbrev pub with_swapped : Matrix → ℕ → ℕ → Matrix

@@ -3,8 +3,10 @@
 ghost use Rattle.std.specs.Prelude.{◌≡◌, IfOk};
 
 use crate::{ple_factors, ple_plain, pluq_factors};
+use m4_field::Field;
 use m4_model::NoMemory;
 use m4_mzd::{Mzd, Rect};
+use m4_mzed::{EWinMut, Mzed};
 use std::alloc::Global;
 use std::test::Fail;
 
@@ -21,9 +23,10 @@ fn factors_of_a_ple(rt: HostRuntime) -> Result<(), Fail> {
     let mut m = sample(alloc)?;
     let mut p = [7u32; 3];
     let mut q = [7u32; 3];
-    let (mut all, home) = m.all_mut();
-    let rank = ple_plain(&mut all, &mut p, &mut q);
-    m.put_all(all, home);
+    let (all, home) = m.all_mut();
+    let mut window = EWinMut::of_bits(all);
+    let rank = ple_plain(&mut window, &mut p, &mut q);
+    m.put_all(window.into_bits(), home);
     assert_eq!(rt; rank, 2);
     assert_eq!(rt; p, [0, 1, 2]);
     assert_eq!(rt; q, [1, 2, 7]);
@@ -55,17 +58,49 @@ fn ple_of_a_window(rt: HostRuntime) -> Result<(), Fail> {
     let mut m = Mzd::from_words(rt.alloc(), 200, &[full; 5])?;
     let mut p = [7u32; 3];
     let mut q = [7u32; 3];
-    let (mut part, around) = m.win_mut(Rect {
+    let (part, around) = m.win_mut(Rect {
         r0: 1,
         c0: 64,
         r1: 4,
         c1: 130,
     });
-    let rank = ple_plain(&mut part, &mut p, &mut q);
-    m.put_win(part, around);
+    let mut window = EWinMut::of_bits(part);
+    let rank = ple_plain(&mut window, &mut p, &mut q);
+    m.put_win(window.into_bits(), around);
     assert_eq!(rt; rank, 1);
     let cut = [u64::MAX, 1, u64::MAX << 2, u64::MAX];
     let wanted = Mzd::from_words(rt.alloc(), 200, &[full, full, cut, cut, full])?;
     assert_eq!(rt; m, wanted);
+    Ok(())
+}
+
+// A matrix over GF(4), x^2 + x + 1, and what its PLE leaves in its place: 3 and 2 are inverse to each other.
+const ROWS_OVER_GF4: [[u32; 3]; 3] = [[0, 2, 1], [3, 1, 2], [2, 3, 3]];
+
+const PLE_OVER_GF4: [[u32; 3]; 3] = [[3, 1, 2], [0, 2, 1], [3, 0, 2]];
+
+fn over_gf4(alloc: Global, field: Field, rows: &[[u32; 3]; 3]) -> Result<Mzed, NoMemory> {
+    let mut m = Mzed::zeros(alloc, field, 3, 3)?;
+    for (r, row) in rows.iter().enumerate() {
+        for (c, x) in row.iter().enumerate() {
+            m.put(r as u32, c as u32, *x);
+        }
+    }
+    Ok(m)
+}
+
+#[test]
+fn ple_over_gf4(rt: HostRuntime) -> Result<(), Fail> {
+    let field = Field::new(2, 7)?;
+    let mut m = over_gf4(rt.alloc(), field, &ROWS_OVER_GF4)?;
+    let mut p = [7u32; 3];
+    let mut q = [7u32; 3];
+    let (mut all, home) = m.all_mut();
+    let rank = ple_plain(&mut all, &mut p, &mut q);
+    m.put_all(all, home);
+    assert_eq!(rt; rank, 3);
+    assert_eq!(rt; p, [1, 1, 2]);
+    assert_eq!(rt; q, [0, 1, 2]);
+    assert_eq!(rt; m, over_gf4(rt.alloc(), field, &PLE_OVER_GF4)?);
     Ok(())
 }

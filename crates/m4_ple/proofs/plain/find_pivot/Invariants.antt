@@ -1,6 +1,6 @@
 use Rattle.std.proofs.Common.{◌≡◌, ℕ, ◌<◌, ◌≤◌}
 use Rattle.m4_model.specs.Matrix.{at}
-use Rattle.m4_mzd.specs.Window.{content}
+use Rattle.m4_mzed.specs.EWindow.{content}
 use Rattle.m4_ple.proofs.plain.find_pivot.Given as goal
 
 abbrev pub invariant-loop-r : goal.invariant-loop-r

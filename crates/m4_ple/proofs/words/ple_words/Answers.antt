@@ -12,7 +12,7 @@ loop-c-init c =
       refl,
       refl,
       subst (λ (p : List ℕ). IsEliminated A p c.args.q.now 0 0 A) (sym (c.number.ensures ∙ ap (range_with_len 0) c.requires.exchanges))
-          (eliminated_start A c.args.q.now refl (HasShape-words c.args.cols c.args.words.now).is_matrix),
+          (eliminated_start A c.args.q.now (HasShape-words c.args.cols c.args.words.now).is_matrix),
     )
 
 pub eliminate_bit-rank-requires-clause-reached : goal.eliminate_bit-rank-requires-clause-reached
