@@ -15,7 +15,7 @@ use m4_newton::EAddMul;
 use m4_trsm::solve_lower_left;
 
 /// The most rows of a triangle that is solved row by row: a larger one is halved, so that most of the work is products.
-pub const BY_ROWS: u32 = 256;
+pub const BY_ROWS: u32 = 64;
 
 /// Brings the right columns up to the left ones, whose first `r` columns hold L: their rows are exchanged as `p` tells, the
 /// first `r` of them become the solution with L's triangle, and L's lower rows times this is added to the others.
