@@ -1,6 +1,6 @@
 //! PLE by halves beside the plain elimination, over GF(2) and over extension fields.
 
-ghost use Rattle.std.specs.Prelude.{◌≡◌, ◌≤◌, length, IfOk};
+ghost use Rattle.std.specs.Prelude.{◌≡◌, ◌^◌, ◌<◌, ◌≤◌, length, IfOk};
 ghost use Rattle.m4_model.specs.Field.{gf2};
 ghost use Rattle.m4_field.specs.Fields.{the_field};
 
@@ -178,11 +178,10 @@ fn element(field: Field, r: u32, c: u32) -> u32
     ensures { result < 2 ^ (the_field field).degree }
 {
     let _degree = field.e();
-    if c % 5 == 4 {
-        return 0;
-    }
-    let word = (u64::from(r) << 32 | u64::from(c) + 1).wrapping_mul(0x9E37_79B9_7F4A_7C15);
-    (word >> 40) as u32 % (1 << field.e())
+    let elements = 1u32 << field.e();
+    let place = u64::from(r) << 32 | u64::from(c) + 1;
+    let word = if c % 5 == 4 { 0 } else { place };
+    (word.wrapping_mul(0x9E37_79B9_7F4A_7C15) >> 40) as u32 % elements
 }
 
 /// A matrix of 150 rows and 140 columns of such elements, in which every seventh row is the one above it again.
@@ -214,6 +213,7 @@ fn put_elements(m: &mut Mzed, field: Field, r: u32)
 
 /// Whether such a matrix is factored alike by strips and tables of multiples, and row by row.
 fn tables_are_alike(alloc: Global, field: Field) -> Result<bool, NoMemory> {
+    let _width = field.width();
     let mut halved = elements(alloc, field)?;
     let mut plain = elements(alloc, field)?;
     let mut row = Mzed::zeros(alloc, field, 1, 140)?;
@@ -222,8 +222,10 @@ fn tables_are_alike(alloc: Global, field: Field) -> Result<bool, NoMemory> {
         base: ByTables::new(alloc, field)?,
         cutoff: 64,
     };
-    let (mut p, mut q) = ([0u32; 150], [0u32; 140]);
-    let (mut plain_p, mut plain_q) = ([0u32; 150], [0u32; 140]);
+    let mut p = vec![in alloc; 0u32; 150]?;
+    let mut q = vec![in alloc; 0u32; 140]?;
+    let mut plain_p = vec![in alloc; 0u32; 150]?;
+    let mut plain_q = vec![in alloc; 0u32; 140]?;
     let (mut all, home) = halved.all_mut();
     let (mut spare, spare_home) = row.all_mut();
     let rank = ple_by_halves(&mut all, &mut p, &mut q, &mut spare, &mut with);

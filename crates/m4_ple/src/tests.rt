@@ -1,6 +1,6 @@
 //! A PLE in place, on a window too, and the factors that stand there.
 
-ghost use Rattle.std.specs.Prelude.{◌≡◌, IfOk};
+ghost use Rattle.std.specs.Prelude.{◌≡◌, ◌<◌, IfOk};
 
 use crate::{ple_factors, ple_plain, pluq_factors};
 use m4_field::Field;
@@ -55,22 +55,21 @@ fn factors_of_a_ple(rt: HostRuntime) -> Result<(), Fail> {
 #[test]
 fn ple_of_a_window(rt: HostRuntime) -> Result<(), Fail> {
     let full = [u64::MAX; 4];
-    let mut m = Mzd::from_words(rt.alloc(), 200, &[full; 5])?;
+    let mut m = Mzed::of_bits(Mzd::from_words(rt.alloc(), 200, &[full; 5])?);
     let mut p = [7u32; 3];
     let mut q = [7u32; 3];
-    let (part, around) = m.win_mut(Rect {
+    let (mut part, around) = m.win_mut(Rect {
         r0: 1,
         c0: 64,
         r1: 4,
         c1: 130,
     });
-    let mut window = EWinMut::of_bits(part);
-    let rank = ple_plain(&mut window, &mut p, &mut q);
-    m.put_win(window.into_bits(), around);
+    let rank = ple_plain(&mut part, &mut p, &mut q);
+    m.put_win(part, around);
     assert_eq!(rt; rank, 1);
     let cut = [u64::MAX, 1, u64::MAX << 2, u64::MAX];
     let wanted = Mzd::from_words(rt.alloc(), 200, &[full, full, cut, cut, full])?;
-    assert_eq!(rt; m, wanted);
+    assert_eq!(rt; m, Mzed::of_bits(wanted));
     Ok(())
 }
 
@@ -79,14 +78,29 @@ const ROWS_OVER_GF4: [[u32; 3]; 3] = [[0, 2, 1], [3, 1, 2], [2, 3, 3]];
 
 const PLE_OVER_GF4: [[u32; 3]; 3] = [[3, 1, 2], [0, 2, 1], [3, 0, 2]];
 
-fn over_gf4(alloc: Global, field: Field, rows: &[[u32; 3]; 3]) -> Result<Mzed, NoMemory> {
+fn over_gf4(alloc: Global, field: Field, rows: &[[u32; 3]; 3]) -> Result<Mzed, NoMemory>
+    ensures { IfOk result (λ m. (m.rows ≡ 3) × (m.cols ≡ 3)) }
+{
+    let _width = field.width();
     let mut m = Mzed::zeros(alloc, field, 3, 3)?;
-    for (r, row) in rows.iter().enumerate() {
-        for (c, x) in row.iter().enumerate() {
-            m.put(r as u32, c as u32, *x);
-        }
-    }
+    put_row(&mut m, 0, &rows[0]);
+    put_row(&mut m, 1, &rows[1]);
+    put_row(&mut m, 2, &rows[2]);
     Ok(m)
+}
+
+// Writes row `r`.
+fn put_row(m: &mut Mzed, r: u32, row: &[u32; 3])
+    requires { r < m.old.rows }
+    ensures rows { m.new.rows ≡ m.old.rows }
+    ensures cols { m.new.cols ≡ m.old.cols }
+{
+    let field = m.field();
+    let _degree = field.e();
+    let elements = 1u32 << field.e();
+    for c in 0..m.cols() {
+        m.put(r, c, row[c as usize % 3] % elements);
+    }
 }
 
 #[test]
