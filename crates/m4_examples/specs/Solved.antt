@@ -1,14 +1,13 @@
 -- Equations with a list of right sides.
-use Rattle.std.specs.Prelude.{◌≡◌, ◌+◌, ◌^◌, ◌≤◌, List, [], ◌∷◌, Option}
+use Rattle.std.specs.Prelude.{◌≡◌, List, [], ◌∷◌, Option}
 use Rattle.m4_model.specs.Field.{gf2}
 use Rattle.m4_model.specs.Matrix.{Matrix}
 use Rattle.m4_dense.specs.Answers.{TellsSolution}
 
--- B is over GF(2) and as high as A, and both together aren't too wide.
+-- B is over GF(2) and as high as A.
 pub record IsSideOf (A B : Matrix) : Type 0 where
   pub over_gf2 : B.field ≡ gf2
   pub rows : B.rows ≡ A.rows
-  pub few_cols : A.cols + B.cols ≤ 2 ^ 24
 
 -- For each B of the list the solution of A X = B, or that there is none.
 abbrev pub AreSolved : Matrix → List Matrix → List (Option Matrix) → Type 0

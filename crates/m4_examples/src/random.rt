@@ -1,12 +1,12 @@
 //! Random matrices.
 
-ghost use Rattle.std.specs.Prelude.{◌≡◌, ◌^◌, ◌<◌, ◌≤◌, IfOk};
+ghost use Rattle.std.specs.Prelude.{◌≡◌, ◌<◌, ◌≤◌, IfOk};
 ghost use Rattle.std.specs.Option.{ForSome};
 ghost use Rattle.m4_model.specs.Field.{gf2};
 ghost use Rattle.m4_model.specs.Rank.{IsRank};
 ghost use Rattle.m4_examples.specs.Regular.{IsRegular};
 
-use m4_dense::{Field, How, Mzed, NoMemory, rank};
+use m4_dense::{Field, How, MOST_SIDE, Mzed, NoMemory, rank};
 use rand_core::Rng;
 use std::alloc::Global;
 
@@ -18,7 +18,7 @@ pub fn draw_regular<R: Rng>(
     n: u32,
     tries: u32,
 ) -> Result<Option<Mzed>, NoMemory>
-    requires { n ≤ 2 ^ 24 }
+    requires { n ≤ MOST_SIDE }
     ensures { IfOk result (λ drawn. ForSome drawn (IsRegular n)) }
 {
     for _ in 0..tries {
@@ -32,8 +32,8 @@ pub fn draw_regular<R: Rng>(
 
 /// A random matrix over GF(2) of so many rows and columns.
 pub fn draw<R: Rng>(alloc: Global, source: &mut R, rows: u32, cols: u32) -> Result<Mzed, NoMemory>
-    requires few_rows { rows ≤ 2 ^ 24 }
-    requires few_cols { cols ≤ 2 ^ 24 }
+    requires few_rows { rows ≤ MOST_SIDE }
+    requires few_cols { cols ≤ MOST_SIDE }
     ensures field { IfOk result (λ m. m.field ≡ gf2) }
     ensures rows { IfOk result (λ m. m.rows ≡ rows) }
     ensures cols { IfOk result (λ m. m.cols ≡ cols) }
