@@ -1,13 +1,13 @@
 -- A row that is cleared in one column by the row of the pivot, and the rows below the pivot, one by one.
-use Rattle.std.proofs.Common.{[], Bool, true, false, ◌≡◌, ◌≢◌, ℕ, inl, inr, nat_lt, ◌&&◌, if◌then◌else◌, ◌+◌, ◌-◌, ◌<◌, ◌≤◌, ◌⊎◌, ⊎_elim, refl, sym, ◌∙◌, ap, ap₂, arith, List, length, get_or, take, drop, set, bit_xor, length-append, length-take, length-drop, get_or-take, get_or-drop}
+use Rattle.std.proofs.Common.{[], Bool, true, false, ◌≡◌, ◌≢◌, ℕ, inl, inr, nat_lt, ◌&&◌, if◌then◌else◌, ◌+◌, ◌<◌, ◌≤◌, ◌⊎◌, ⊎_elim, refl, sym, ◌∙◌, ap, arith, List, length, get_or, set, bit_xor}
 use Rattle.std.proofs.lemmas.Bool.{cases_lt, cases_eq, eq-eqb, ne_eqb, lt-ltb, le-ltb}
-use Rattle.std.proofs.lemmas.List.{ext_get_or, length-map, get_or-map, length-set, get_or-set_same, get_or-set_other, set-set, set-get_or, get_or_append_left, get_or-append_right}
+use Rattle.std.proofs.lemmas.List.{ext_get_or, length-map, get_or-map, length-set, get_or-set_same, get_or-set_other, set-set, set-get_or}
 use Rattle.std.proofs.lemmas.List.FromFn.{length-map-range_with_len, get_or-map-range_with_len}
 use Rattle.m4_model.specs.Field.{mul}
-use Rattle.m4_model.specs.Matrix.{Matrix, IsMatrix, row, at, row_sum, with_row, with_entry}
+use Rattle.m4_model.specs.Matrix.{Matrix, IsMatrix, row, at, with_row, with_entry}
 use Rattle.m4_model.proofs.MatrixLemmas.{at-table, length-row-table, same_matrix}
 use Rattle.m4_mzd.specs.Rows.{sum_from}
-use Rattle.m4_mzd.proofs.RowLemmas.{with_row-matrix_of, length-row_sum, get_or-row_sum}
+use Rattle.m4_mzd.proofs.RowLemmas.{with_row-matrix_of}
 pub use Rattle.m4_mzd.proofs.RowLemmas.{length-sum_from, sum_from-before, sum_from-after}
 use Rattle.m4_mzed.specs.Rows.{multiples}
 use Rattle.m4_ple.specs.Elimination.{factor_of, cleared_entry, cleared_row, cleared}

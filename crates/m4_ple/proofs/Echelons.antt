@@ -1,8 +1,7 @@
 -- The echelon form in place: a row that keeps its tail, and the form that a PLE in place holds.
-use Rattle.std.proofs.Common.{◌≡◌, ℕ, ◌+◌, ◌-◌, ◌<◌, ◌≤◌, inl, inr, ⊎_elim, refl, sym, ◌∙◌, ap, arith, List, length, slice_index, get_or, drop, replicate, ◌++◌, bit_xor, nat_lt, nat_le, ◌&&◌, if◌then◌else◌, length-append, length-drop, get_or-drop}
-use Rattle.std.specs.Int.Bits.{xor_zero_l}
+use Rattle.std.proofs.Common.{◌≡◌, ℕ, ◌+◌, ◌-◌, ◌<◌, ◌≤◌, inl, inr, ⊎_elim, refl, sym, ◌∙◌, ap, arith, List, length, slice_index, drop, replicate, ◌++◌, nat_lt, nat_le, ◌&&◌, if◌then◌else◌, length-append, length-drop, get_or-drop}
 use Rattle.std.proofs.lemmas.Bool.{cases_lt, lt-ltb, le-ltb, le-leb, lt-leb}
-use Rattle.std.proofs.lemmas.List.{ext_get_or, length-replicate, get_or-replicate, get_or_append_left, get_or-append_right}
+use Rattle.std.proofs.lemmas.List.{ext_get_or, length-replicate, get_or-replicate, get_or_append_left, get_or-append_right, take-replicate}
 use Rattle.m4_model.specs.Field.{Field}
 use Rattle.m4_model.specs.Matrix.{Matrix, IsMatrix, HasShape, row, at, matrix_of, with_row}
 use Rattle.m4_model.specs.Factors.{Stored}
@@ -11,31 +10,16 @@ use Rattle.m4_model.proofs.MatrixLemmas.{at-table, length-row-table}
 use Rattle.m4_model.proofs.ExchangeLemmas.{rising-at_least}
 use Rattle.m4_model.proofs.ShapeLemmas.{at_shape, same_from_entries}
 use Rattle.m4_model.proofs.FactorLemmas.{at-stored_upper}
-use Rattle.m4_mzd.specs.Rows.{sum_from}
+use Rattle.m4_mzd.specs.Parts.{part, with_part}
 use Rattle.m4_ple.specs.Parts.{echelon_entry, echelon_part}
 use Rattle.m4_ple.proofs.RowByRow.{done_to, done_to-more, at-done_later}
-use Rattle.m4_ple.proofs.Clearing.{length-sum_from, sum_from-before, sum_from-after}
 
--- the tail of a row added to zeros
-pub tail_added : (c n : ℕ) (xs : List ℕ) → length xs ≡ n → c ≤ n → sum_from c (replicate n 0) xs ≡ replicate c 0 ++ drop c xs
-tail_added c n xs long within =
-    let zeros = length-replicate {A = ℕ} n 0 in
+-- zeros over the front of a row
+pub front_cleared : (c n : ℕ) (xs : List ℕ) → c ≤ n → with_part 0 (part 0 c (replicate n 0)) xs ≡ replicate c 0 ++ drop c xs
+front_cleared c n xs within =
     let front = length-replicate {A = ℕ} c 0 in
-    let rest = length-drop c xs in
-    let sum = length-sum_from c (replicate n 0) xs in
-    let whole = length-append (replicate c 0) (drop c xs) in
-    ext_get_or 0 _ _ (omega (arith, zeros, front, rest, sum, whole, long, within)) (λ j inside. ⊎_elim
-    (λ (before : j < c).
-    sum_from-before c j (replicate n 0) xs (omega (arith, zeros, within)) before
-    ∙ get_or-replicate n j 0 0 (omega (arith, before, within))
-    ∙ sym (get_or_append_left (replicate c 0) (drop c xs) 0 j (omega (arith, before, front)) ∙ get_or-replicate c j 0 0 before))
-    (λ (behind : c ≤ j).
-    let place : c + (j - c) ≡ j = omega (arith, behind) in
-    sum_from-after c j (replicate n 0) xs (omega (arith, long, zeros)) (omega (arith, zeros, within)) behind
-    ∙ ap (λ (x : ℕ). bit_xor x (get_or xs j 0)) (get_or-replicate n j 0 0 (omega (arith, inside, sum, zeros)))
-    ∙ xor_zero_l (get_or xs j 0)
-    ∙ sym (get_or-append_right (replicate c 0) (drop c xs) c j 0 front behind ∙ get_or-drop c xs (j - c) 0 ∙ ap (λ (j : ℕ). get_or xs j 0) place))
-    (cases_lt j c))
+    ap (λ (ys : List ℕ). with_part 0 ys xs) (take-replicate c n 0 within)
+    ∙ ap (λ (k : ℕ). replicate c 0 ++ drop k xs) (let e : 0 + length (replicate {A = ℕ} c 0) ≡ c = omega (arith, front) in e)
 
 -- row i of the echelon form
 module _ (q : List ℕ) (W : Matrix) where

@@ -3,13 +3,13 @@
 ghost use Rattle.std.specs.Prelude.{◌≡◌, ℕ, ◌<◌, ◌≤◌, length, slice_index};
 ghost use Rattle.std.specs.List.{swap};
 ghost use Rattle.m4_model.specs.Matrix.{row, with_row};
-ghost use Rattle.m4_mzd.specs.Window.{content, showing};
+ghost use Rattle.m4_mzed.specs.EWindow.{content, showing};
 ghost use Rattle.m4_ple.specs.Columns.{exchanged_row, with_exchanged};
 
-use m4_mzd::WinMut;
+use m4_mzed::EWinMut;
 
 /// Exchanges, for k = 0, 1, 2 and so on in turn, the entries in columns k and `pivots[k]` of the rows 0 to k.
-pub fn exchange_columns(a: &mut WinMut, pivots: &[u32])
+pub fn exchange_columns(a: &mut EWinMut, pivots: &[u32])
     requires in_rows { length pivots.now ≤ a.old.rows }
     requires room { length pivots.now ≤ a.old.cols }
     requires in_cols { (k : ℕ) → k < length pivots.now → slice_index pivots.now k < a.old.cols }
@@ -22,7 +22,7 @@ pub fn exchange_columns(a: &mut WinMut, pivots: &[u32])
 }
 
 /// Exchanges in row `i` the entries in columns k and `pivots[k]`, for k from `i` on in turn.
-fn exchange_in_row(a: &mut WinMut, i: u32, pivots: &[u32])
+fn exchange_in_row(a: &mut EWinMut, i: u32, pivots: &[u32])
     requires in_rows { i < a.old.rows }
     requires room { length pivots.now ≤ a.old.cols }
     requires in_cols { (k : ℕ) → k < length pivots.now → slice_index pivots.now k < a.old.cols }
@@ -35,7 +35,7 @@ fn exchange_in_row(a: &mut WinMut, i: u32, pivots: &[u32])
 }
 
 /// Exchanges the entries in columns `i` and `j` of row `r`.
-fn swap_entries(a: &mut WinMut, r: u32, i: u32, j: u32)
+fn swap_entries(a: &mut EWinMut, r: u32, i: u32, j: u32)
     requires in_rows { r < a.old.rows }
     requires first { i < a.old.cols }
     requires second { j < a.old.cols }

@@ -1,54 +1,53 @@
 //! A PLE in place, on a window too, and the factors that stand there.
 
 ghost use Rattle.std.specs.Prelude.{◌≡◌, ◌<◌, IfOk};
+ghost use Rattle.m4_field.specs.Fields.{the_field};
 
-use crate::{ple_factors, ple_plain, pluq_factors};
+use crate::{exchange_columns, keep_echelon, ple_factors, ple_plain, pluq_factors};
 use m4_field::Field;
 use m4_model::NoMemory;
 use m4_mzd::{Mzd, Rect};
-use m4_mzed::{EWinMut, Mzed};
+use m4_mzed::Mzed;
 use std::alloc::Global;
 use std::test::Fail;
 
-// The rows 010, 011 and 001.
-fn sample(alloc: Global) -> Result<Mzd, NoMemory>
+// A matrix over GF(2) of these digits.
+fn of_digits(alloc: Global, rows: &[[u8; 3]; 3]) -> Result<Mzed, NoMemory>
     ensures { IfOk result (λ m. (m.rows ≡ 3) × (m.cols ≡ 3)) }
 {
-    Mzd::from_digits(alloc, &[*b"010", *b"011", *b"001"])
+    Ok(Mzed::of_bits(Mzd::from_digits(alloc, rows)?))
 }
+
+const ROWS_OVER_GF2: [[u8; 3]; 3] = [*b"010", *b"011", *b"001"];
 
 #[test]
 fn factors_of_a_ple(rt: HostRuntime) -> Result<(), Fail> {
     let alloc = rt.alloc();
-    let mut m = sample(alloc)?;
+    let mut m = of_digits(alloc, &ROWS_OVER_GF2)?;
     let mut p = [7u32; 3];
     let mut q = [7u32; 3];
-    let (all, home) = m.all_mut();
-    let mut window = EWinMut::of_bits(all);
-    let rank = ple_plain(&mut window, &mut p, &mut q);
-    m.put_all(window.into_bits(), home);
+    let (mut all, home) = m.all_mut();
+    let rank = ple_plain(&mut all, &mut p, &mut q);
+    m.put_all(all, home);
     assert_eq!(rt; rank, 2);
     assert_eq!(rt; p, [0, 1, 2]);
     assert_eq!(rt; q, [1, 2, 7]);
-    assert_eq!(rt; m, Mzd::from_digits(alloc, &[*b"010", *b"101", *b"010"])?);
+    assert_eq!(rt; m, of_digits(alloc, &[*b"010", *b"101", *b"010"])?);
+    let _cols = m.cols();
     let factors = ple_factors(alloc, &m.all(), &q[..rank as usize])?;
-    assert_eq!(rt;
-        factors.l,
-        Mzd::from_digits(alloc, &[*b"100", *b"110", *b"011"])?
-    );
-    assert_eq!(rt;
-        factors.e,
-        Mzd::from_digits(alloc, &[*b"010", *b"001", *b"000"])?
-    );
-    let upper = pluq_factors(alloc, &sample(alloc)?.all(), 1)?;
-    assert_eq!(rt;
-        upper.l,
-        Mzd::from_digits(alloc, &[*b"100", *b"010", *b"001"])?
-    );
-    assert_eq!(rt;
-        upper.e,
-        Mzd::from_digits(alloc, &[*b"010", *b"000", *b"000"])?
-    );
+    assert_eq!(rt; factors.l, of_digits(alloc, &[*b"100", *b"110", *b"011"])?);
+    assert_eq!(rt; factors.e, of_digits(alloc, &[*b"010", *b"001", *b"000"])?);
+    Ok(())
+}
+
+#[test]
+fn factors_of_a_pluq(rt: HostRuntime) -> Result<(), Fail> {
+    let alloc = rt.alloc();
+    let m = of_digits(alloc, &ROWS_OVER_GF2)?;
+    let _cols = m.cols();
+    let factors = pluq_factors(alloc, &m.all(), 1)?;
+    assert_eq!(rt; factors.l, of_digits(alloc, &[*b"100", *b"010", *b"001"])?);
+    assert_eq!(rt; factors.e, of_digits(alloc, &[*b"010", *b"000", *b"000"])?);
     Ok(())
 }
 
@@ -73,13 +72,18 @@ fn ple_of_a_window(rt: HostRuntime) -> Result<(), Fail> {
     Ok(())
 }
 
-// A matrix over GF(4), x^2 + x + 1, and what its PLE leaves in its place: 3 and 2 are inverse to each other.
+// A matrix over GF(4), x^2 + x + 1, what its PLE leaves in its place, and the factors: 3 and 2 are inverse to each other.
 const ROWS_OVER_GF4: [[u32; 3]; 3] = [[0, 2, 1], [3, 1, 2], [2, 3, 3]];
 
 const PLE_OVER_GF4: [[u32; 3]; 3] = [[3, 1, 2], [0, 2, 1], [3, 0, 2]];
 
+const LOWER_OVER_GF4: [[u32; 3]; 3] = [[1, 0, 0], [0, 1, 0], [3, 0, 1]];
+
+const ECHELON_OVER_GF4: [[u32; 3]; 3] = [[3, 1, 2], [0, 2, 1], [0, 0, 2]];
+
 fn over_gf4(alloc: Global, field: Field, rows: &[[u32; 3]; 3]) -> Result<Mzed, NoMemory>
-    ensures { IfOk result (λ m. (m.rows ≡ 3) × (m.cols ≡ 3)) }
+    ensures shape { IfOk result (λ m. (m.rows ≡ 3) × (m.cols ≡ 3)) }
+    ensures field { IfOk result (λ m. m.field ≡ the_field field) }
 {
     let _width = field.width();
     let mut m = Mzed::zeros(alloc, field, 3, 3)?;
@@ -94,6 +98,7 @@ fn put_row(m: &mut Mzed, r: u32, row: &[u32; 3])
     requires { r < m.old.rows }
     ensures rows { m.new.rows ≡ m.old.rows }
     ensures cols { m.new.cols ≡ m.old.cols }
+    ensures field { m.new.field ≡ m.old.field }
 {
     let field = m.field();
     let _degree = field.e();
@@ -116,5 +121,51 @@ fn ple_over_gf4(rt: HostRuntime) -> Result<(), Fail> {
     assert_eq!(rt; p, [1, 1, 2]);
     assert_eq!(rt; q, [0, 1, 2]);
     assert_eq!(rt; m, over_gf4(rt.alloc(), field, &PLE_OVER_GF4)?);
+    Ok(())
+}
+
+#[test]
+fn factors_over_gf4(rt: HostRuntime) -> Result<(), Fail> {
+    let field = Field::new(2, 7)?;
+    let m = over_gf4(rt.alloc(), field, &PLE_OVER_GF4)?;
+    let _cols = m.cols();
+    let factors = pluq_factors(rt.alloc(), &m.all(), 3)?;
+    assert_eq!(rt; factors.l, over_gf4(rt.alloc(), field, &LOWER_OVER_GF4)?);
+    assert_eq!(rt; factors.e, over_gf4(rt.alloc(), field, &ECHELON_OVER_GF4)?);
+    Ok(())
+}
+
+// The first two pivots of this matrix stand in its columns 1 and 2.
+const PIVOTS: [u32; 2] = [1, 2];
+
+const ECHELON_HELD: [[u32; 3]; 3] = [[1, 3, 2], [2, 1, 3], [3, 2, 1]];
+
+const ECHELON_KEPT: [[u32; 3]; 3] = [[0, 3, 2], [0, 0, 3], [0, 0, 0]];
+
+const COLUMNS_EXCHANGED: [[u32; 3]; 3] = [[3, 2, 1], [2, 3, 1], [3, 2, 1]];
+
+#[test]
+fn echelon_form_over_gf4(rt: HostRuntime) -> Result<(), Fail> {
+    let field = Field::new(2, 7)?;
+    let mut m = over_gf4(rt.alloc(), field, &ECHELON_HELD)?;
+    let _width = field.width();
+    let mut row = Mzed::zeros(rt.alloc(), field, 1, 3)?;
+    let (mut all, home) = m.all_mut();
+    let (mut spare, spare_home) = row.all_mut();
+    keep_echelon(&mut all, &PIVOTS, &mut spare);
+    m.put_all(all, home);
+    row.put_all(spare, spare_home);
+    assert_eq!(rt; m, over_gf4(rt.alloc(), field, &ECHELON_KEPT)?);
+    Ok(())
+}
+
+#[test]
+fn columns_over_gf4(rt: HostRuntime) -> Result<(), Fail> {
+    let field = Field::new(2, 7)?;
+    let mut m = over_gf4(rt.alloc(), field, &ECHELON_HELD)?;
+    let (mut all, home) = m.all_mut();
+    exchange_columns(&mut all, &PIVOTS);
+    m.put_all(all, home);
+    assert_eq!(rt; m, over_gf4(rt.alloc(), field, &COLUMNS_EXCHANGED)?);
     Ok(())
 }

@@ -1,5 +1,5 @@
 use Rattle.std.proofs.Common.{◌≡◌}
-use Rattle.m4_mzd.specs.Window.{content, showing}
+use Rattle.m4_mzed.specs.EWindow.{content, showing}
 use Rattle.m4_ple.specs.Columns.{with_exchanged}
 use Rattle.m4_ple.proofs.columns.exchange_columns.Given as goal
 

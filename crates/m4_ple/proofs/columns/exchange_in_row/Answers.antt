@@ -3,7 +3,7 @@ use Rattle.std.specs.List.{swap}
 use Rattle.std.proofs.lemmas.List.{length-set, get_or-set_same}
 use Rattle.m4_model.specs.Matrix.{row, with_row}
 use Rattle.m4_model.specs.Shapes.{exchanged}
-use Rattle.m4_mzd.specs.Window.{Window, content, showing}
+use Rattle.m4_mzed.specs.EWindow.{EWindow, content, showing}
 use Rattle.m4_perm.proofs.OrderLemmas.{exchange_step, exchange_done}
 use Rattle.m4_ple.proofs.ExchangedColumns.{with_row-again}
 use Rattle.m4_ple.proofs.columns.exchange_in_row.Goals as goal
@@ -18,13 +18,13 @@ loop-k-preserved c =
     let B = content c.loop-k.a in
     let xs = row B i in
     let ys = swap xs k (slice_index q k) in
-    let height = c.rows-rows.ensures.shape.matrix.height in
-    let long : length B.entries ≡ length A.entries = ap (λ (V : Window). length V.bits) c.loop-k.invariant.0 ∙ length-set A.entries i xs in
+    let height = c.rows-rows.ensures.matrix.height in
+    let long : length B.entries ≡ length A.entries = ap (λ (V : EWindow). length V.entries) c.loop-k.invariant.0 ∙ length-set A.entries i xs in
     let inside = c.requires.in_rows in
     let now : row (content c.swap_entries.new.a) i ≡ ys
-    = ap (λ (V : Window). row (content V) i) c.swap_entries.ensures ∙ get_or-set_same B.entries i ys [] (omega (arith, long, height, inside)) in (
+    = ap (λ (V : EWindow). row (content V) i) c.swap_entries.ensures ∙ get_or-set_same B.entries i ys [] (omega (arith, long, height, inside)) in (
       c.swap_entries.ensures
-          ∙ ap (λ (V : Window). showing V (with_row (content V) i ys)) c.loop-k.invariant.0
+          ∙ ap (λ (V : EWindow). showing V (with_row (content V) i ys)) c.loop-k.invariant.0
           ∙ ap (showing W) (with_row-again A i xs ys ∙ ap (with_row A i) (sym now)),
       ap (exchanged (k + 1) (drop (k + 1) q)) now ∙ sym (exchange_step k q xs (let e : k < length q = omega arith in e)) ∙ c.loop-k.invariant.1,
     )

@@ -1,7 +1,7 @@
 use Rattle.std.proofs.Common.{◌≡◌, drop}
 use Rattle.m4_model.specs.Matrix.{row, with_row}
 use Rattle.m4_model.specs.Shapes.{exchanged}
-use Rattle.m4_mzd.specs.Window.{content, showing}
+use Rattle.m4_mzed.specs.EWindow.{content, showing}
 use Rattle.m4_ple.specs.Columns.{exchanged_row}
 use Rattle.m4_ple.proofs.columns.exchange_in_row.Given as goal
 

@@ -1,5 +1,5 @@
 use Rattle.std.proofs.Common.{◌≡◌}
-use Rattle.m4_mzd.specs.Window.{content, showing}
+use Rattle.m4_mzed.specs.EWindow.{content, showing}
 use Rattle.m4_ple.specs.Parts.{echelon_entry}
 use Rattle.m4_ple.proofs.RowByRow.{done_to}
 use Rattle.m4_ple.proofs.echelon.keep_echelon.Given as goal

@@ -1,6 +1,6 @@
 use Rattle.std.proofs.Common.{◌∙◌, ap, arith}
 use Rattle.m4_model.specs.Matrix.{with_row}
-use Rattle.m4_mzd.specs.Window.{content, showing}
+use Rattle.m4_mzed.specs.EWindow.{content, showing}
 use Rattle.m4_ple.proofs.Echelons.{row-with_pivot, row-without_pivot}
 use Rattle.m4_ple.proofs.echelon.keep_row.Goals as goal
 
@@ -13,7 +13,7 @@ returns-then-i-pivots-clause-row c =
     let within = c.requires.in_cols i pivoted in
     c.keep_tail.ensures.row
     ∙ ap (λ xs. showing c.args.a.now (with_row A i xs))
-    (row-with_pivot q A c.rows-rows.ensures.shape.matrix i c.requires.in_rows pivoted (omega (arith, within)))
+    (row-with_pivot q A c.rows-rows.ensures.matrix i c.requires.in_rows pivoted (omega (arith, within)))
 
 pub returns-else-i-pivots-clause-row : goal.returns-else-i-pivots-clause-row
 returns-else-i-pivots-clause-row c =

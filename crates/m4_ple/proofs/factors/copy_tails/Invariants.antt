@@ -1,9 +1,9 @@
 use Rattle.std.proofs.Common.{◌≡◌}
-use Rattle.m4_mzd.specs.Window.{content, showing}
-use Rattle.m4_mzd.specs.Seen.{shown}
+use Rattle.m4_mzed.specs.EWindow.{content, showing}
+use Rattle.m4_mzed.specs.ESeen.{e_shown}
 use Rattle.m4_ple.specs.Parts.{echelon_entry}
 use Rattle.m4_ple.proofs.RowByRow.{done_to}
 use Rattle.m4_ple.proofs.factors.copy_tails.Given as goal
 
 abbrev pub invariant-loop-i : goal.invariant-loop-i
-invariant-loop-i l = l.all ≡ showing l.fn.all (done_to (echelon_entry l.pivots (shown l.a)) (content l.fn.all) l.i)
+invariant-loop-i l = l.all ≡ showing l.fn.all (done_to (echelon_entry l.pivots (e_shown l.a)) (content l.fn.all) l.i)

@@ -1,19 +1,19 @@
-use Rattle.std.proofs.Common.{◌∙◌, ap, arith}
+use Rattle.std.proofs.Common.{ℕ, ◌-◌, sym, ◌∙◌, ap, arith}
 use Rattle.m4_model.specs.Matrix.{Matrix, row, with_row}
-use Rattle.m4_mzd.specs.Window.{Window, content, showing}
-use Rattle.m4_mzd.specs.Seen.{shown}
-use Rattle.m4_mzd.specs.Rows.{sum_from}
+use Rattle.m4_mzed.specs.EWindow.{EWindow, content, showing}
+use Rattle.m4_mzed.specs.ESeen.{e_shown}
+use Rattle.m4_mzd.specs.Parts.{part, with_part}
 use Rattle.m4_ple.specs.Parts.{triangle_entry}
-use Rattle.m4_ple.proofs.RowByRow.{done_to-start}
+use Rattle.m4_ple.proofs.RowByRow.{done_to, done_to-start}
 use Rattle.m4_ple.proofs.FactorParts.{tail_put, tails_put}
 use Rattle.m4_ple.proofs.factors.copy_triangle.Goals as goal
 
 pub loop-i-init : goal.loop-i-init
 loop-i-init c =
-    ap (showing c.args.all.now) (done_to-start (triangle_entry c.args.r (shown c.args.a.now)) (content c.args.all.now) c.rows-rows.ensures.shape.matrix)
+    ap (showing c.args.all.now) (done_to-start (triangle_entry c.args.r (e_shown c.args.a.now)) (content c.args.all.now) c.rows-rows.ensures.matrix)
 
-pub add_tail-requires : goal.add_tail-requires
-add_tail-requires c =
+pub copy_part-requires : goal.copy_part-requires
+copy_part-requires c =
     let rows = ap (λ (M : Matrix). M.rows) c.requires.zeros in
     let cols = ap (λ (M : Matrix). M.cols) c.requires.zeros in
     let room = c.requires.in_rows in
@@ -22,24 +22,27 @@ add_tail-requires c =
     rw c.loop-i.invariant (record {
       in_rows = omega (arith, rows, room, inside);
       in_from = omega (arith, room, inside);
-      same_cols = omega (arith, cols);
-      in_cols = omega (arith, cols, wide, inside);
+      in_cols = let all = c.cols-cols.ensures.cols in omega (arith, cols, wide, inside, all);
+      in_from_cols = let all = c.cols-cols.ensures.cols in omega (arith, wide, inside, all);
+      same_field = sym (ap (λ (M : Matrix). M.field) c.requires.zeros);
     })
 
 pub loop-i-preserved : goal.loop-i-preserved
 loop-i-preserved c =
     let W = c.args.all.now in
-    let A = shown c.args.a.now in
+    let A = e_shown c.args.a.now in
     let i = c.loop-i.i in
     let inside = c.loop-i-test.true in
     let room = c.requires.in_rows in
     let wide = c.requires.in_cols in
-    c.add_tail.ensures
-    ∙ ap (λ (V : Window). showing V (with_row (content V) i (sum_from i (row (content V) i) (row A i)))) c.loop-i.invariant
-    ∙ ap (showing W) (tail_put c.args.r (λ i. i) A (content W) c.requires.zeros i c.rows-rows.ensures.shape.matrix c.cols-cols.ensures.matrix inside
+    let g = triangle_entry c.args.r A in
+    c.copy_part.ensures
+    ∙ ap (λ (V : EWindow). showing V (with_row (content V) i (with_part i (part i (c.cols-cols.result - i) (row A i)) (row (content V) i)))) c.loop-i.invariant
+    ∙ ap (λ (m : ℕ). showing W (with_row (done_to g (content W) i) i (with_part i (part i (m - i) (row A i)) (row (done_to g (content W) i) i)))) c.cols-cols.ensures.cols
+    ∙ ap (showing W) (tail_put c.args.r (λ i. i) A (content W) c.requires.zeros i c.rows-rows.ensures.matrix c.cols-cols.ensures.matrix inside
     (omega (arith, inside, room)) (omega (arith, inside, wide)))
 
 pub returns : goal.returns
 returns c =
     c.loop-i.invariant
-    ∙ ap (showing c.args.all.now) (tails_put c.args.r (λ i. i) (shown c.args.a.now) (content c.args.all.now) c.requires.zeros c.loop-i.i (omega arith))
+    ∙ ap (showing c.args.all.now) (tails_put c.args.r (λ i. i) (e_shown c.args.a.now) (content c.args.all.now) c.requires.zeros c.loop-i.i (omega arith))
