@@ -24,5 +24,5 @@ pub use by_tables::ByTables;
 pub use by_words::ByWords;
 pub use exchanges::swap_rows_by;
 pub use halves::{Halving, ple_by_halves};
-pub use in_place::{BitHalving, ple, pluq};
+pub use in_place::pluq;
 pub use plain::Plain;

@@ -1,10 +1,10 @@
-//! PLE by halves beside the plain elimination, over GF(2) and over extension fields.
+//! PLE by halves beside the plain elimination, over GF(2) and over extension fields, and a PLUQ.
 
 ghost use Rattle.std.specs.Prelude.{◌≡◌, ◌^◌, ◌<◌, ◌≤◌, length, IfOk};
 ghost use Rattle.m4_model.specs.Field.{gf2};
 ghost use Rattle.m4_field.specs.Fields.{the_field};
 
-use crate::{Base, ByTables, ByWords, Halving, Plain as PlainBase, ple_by_halves};
+use crate::{Base, ByTables, ByWords, Halving, Plain as PlainBase, ple_by_halves, pluq};
 use m4_field::Field;
 use m4_model::NoMemory;
 use m4_mul::Plain;
@@ -246,5 +246,65 @@ fn tables_of_multiples_factor_as_rows_do(rt: HostRuntime) -> Result<(), Fail> {
         let field = Field::new(case.0, case.1)?;
         assert!(rt; tables_are_alike(rt.alloc(), field)?);
     }
+    Ok(())
+}
+
+// A matrix over GF(4), x^2 + x + 1, whose first column is zero, and what its PLUQ leaves in its place: the inverse of 3 is
+// 2, and the factor that clears the second row is 3, the square of 2.
+const ROWS_OVER_GF4: [[u32; 3]; 3] = [[0, 3, 1], [0, 2, 2], [0, 0, 0]];
+
+const PLUQ_OVER_GF4: [[u32; 3]; 3] = [[3, 1, 0], [3, 1, 0], [0, 0, 0]];
+
+/// A matrix over GF(4) of these elements.
+fn over_gf4(alloc: Global, field: Field, rows: &[[u32; 3]; 3]) -> Result<Mzed, NoMemory>
+    ensures shape { IfOk result (λ m. (m.rows ≡ 3) × (m.cols ≡ 3)) }
+    ensures field { IfOk result (λ m. m.field ≡ the_field field) }
+{
+    let _width = field.width();
+    let mut m = Mzed::zeros(alloc, field, 3, 3)?;
+    put_row(&mut m, 0, &rows[0]);
+    put_row(&mut m, 1, &rows[1]);
+    put_row(&mut m, 2, &rows[2]);
+    Ok(m)
+}
+
+/// Writes row `r`.
+fn put_row(m: &mut Mzed, r: u32, row: &[u32; 3])
+    requires { r < m.old.rows }
+    ensures rows { m.new.rows ≡ m.old.rows }
+    ensures cols { m.new.cols ≡ m.old.cols }
+    ensures field { m.new.field ≡ m.old.field }
+{
+    let field = m.field();
+    let _degree = field.e();
+    let elements = 1u32 << field.e();
+    for c in 0..m.cols() {
+        m.put(r, c, row[c as usize % 3] % elements);
+    }
+}
+
+#[test]
+fn pluq_over_gf4(rt: HostRuntime) -> Result<(), Fail> {
+    let alloc = rt.alloc();
+    let field = Field::new(2, 7)?;
+    let _width = field.width();
+    let mut m = over_gf4(alloc, field, &ROWS_OVER_GF4)?;
+    let mut row = Mzed::zeros(alloc, field, 1, 3)?;
+    let mut with = Halving {
+        engine: EPlain,
+        base: ByTables::new(alloc, field)?,
+        cutoff: 64,
+    };
+    let mut p = [7u32; 3];
+    let mut q = [7u32; 3];
+    let (mut all, home) = m.all_mut();
+    let (mut spare, spare_home) = row.all_mut();
+    let rank = pluq(&mut all, &mut p, &mut q, &mut spare, &mut with);
+    m.put_all(all, home);
+    row.put_all(spare, spare_home);
+    assert_eq!(rt; rank, 2);
+    assert_eq!(rt; p, [0, 1, 2]);
+    assert_eq!(rt; q, [1, 2, 7]);
+    assert_eq!(rt; m, over_gf4(alloc, field, &PLUQ_OVER_GF4)?);
     Ok(())
 }

@@ -1,7 +1,7 @@
 use Rattle.std.proofs.Common.{◌≡◌, ◌+◌, inl, sym, ◌∙◌, ap, subst, arith, List, ℕ}
 use Rattle.m4_model.specs.Matrix.{row, with_row}
 use Rattle.m4_mzed.specs.EWindow.{EWindow, content, showing}
-use Rattle.m4_ple.specs.Elimination.{cleared, cleared_row}
+use Rattle.m4_ple.specs.Elimination.{cleared_row}
 use Rattle.m4_ple.proofs.Clearing.{cleared-start, cleared-more, row-cleared_other}
 use Rattle.m4_eple.specs.Tails.{IsTail}
 use Rattle.m4_eple.proofs.by_tables.clear_by_table.Goals as goal

@@ -1,4 +1,4 @@
-use Rattle.std.proofs.Common.{◌≡◌, ℕ, ◌+◌, ◌-◌, sym, ◌∙◌, ap, subst, arith, List, [], length, replicate}
+use Rattle.std.proofs.Common.{◌≡◌, ℕ, ◌+◌, ◌-◌, sym, ◌∙◌, ap, subst, arith, [], length, replicate}
 use Rattle.std.proofs.lemmas.List.{length-set, get_or-set_same}
 use Rattle.m4_model.specs.Matrix.{Matrix, row, at}
 use Rattle.m4_model.proofs.MatrixLemmas.{length-table}
