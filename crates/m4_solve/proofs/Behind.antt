@@ -76,6 +76,12 @@ module _ (F : Field) (laws : FieldLaws F) (m n : ℕ) (E R T : Matrix) (q : List
     | inr late ↦ rest i j from low late within ∙ zero_below i j from low within
   ]
 
+-- Before column k, V is L. Behind it the triangle of T times the first r rows of V is those rows of W, and the other rows are W's.
+pub record IsSolvedBehind (F : Field) (r m k n : ℕ) (T W L V : Matrix) : Type 0 where
+  pub before : (i j : ℕ) → i < m → j < k → at V i j ≡ at L i j
+  pub solved : (i j : ℕ) → i < r → k ≤ j → j < k + n → at W i j ≡ times F r (at (unit_upper T)) (at V) i j
+  pub rest : (i j : ℕ) → r ≤ i → i < m → k ≤ j → j < k + n → at V i j ≡ at W i j
+
 -- Columns behind column k, where the first r rows of Y become X with the triangle of T times X those rows.
 module _ (F : Field) (laws : FieldLaws F) (r m k n : ℕ) (T W L Y X V : Matrix) (t : HasShape F r r T) (l : HasShape F m k L) (y : HasShape F m n Y) (x : HasShape F m n X)
     (l0 : Matrix) (before : HasShape F m k l0) (within : r ≤ m) (old : beside l0 Y ≡ W) (new : V ≡ beside L X)
@@ -91,13 +97,13 @@ module _ (F : Field) (laws : FieldLaws F) (r m k n : ℕ) (T W L Y X V : Matrix)
       let place : k + (j - k) ≡ j = omega (arith, from) in
       ap (λ (C : Matrix). at C i j) new ∙ ap (at (beside L X) i) (sym place) ∙ at-beside_right l x i (j - k) low (omega (arith, from, inside))
 
-  pub before_joined : (i j : ℕ) → i < m → j < k → at V i j ≡ at L i j
+  before_joined : (i j : ℕ) → i < m → j < k → at V i j ≡ at L i j
   before_joined i j low inside = ap (λ (C : Matrix). at C i j) new ∙ at-beside_left l x i j low inside
 
-  pub rest_joined : ((i j : ℕ) → r ≤ i → i < m → j < n → at X i j ≡ at Y i j) → (i j : ℕ) → r ≤ i → i < m → k ≤ j → j < k + n → at V i j ≡ at W i j
+  rest_joined : ((i j : ℕ) → r ≤ i → i < m → j < n → at X i j ≡ at Y i j) → (i j : ℕ) → r ≤ i → i < m → k ≤ j → j < k + n → at V i j ≡ at W i j
   rest_joined rest i j past low from inside = at-new i j low from inside ∙ rest i (j - k) past low (omega (arith, from, inside)) ∙ sym (at-old i j low from inside)
 
-  pub solved_joined : (i j : ℕ) → i < r → k ≤ j → j < k + n → at W i j ≡ times F r (at (unit_upper T)) (at V) i j
+  solved_joined : (i j : ℕ) → i < r → k ≤ j → j < k + n → at W i j ≡ times F r (at (unit_upper T)) (at V) i j
   solved_joined i j below from inside =
       let x_cols = x.cols in
       let y_cols = y.cols in
@@ -115,3 +121,6 @@ module _ (F : Field) (laws : FieldLaws F) (r m k n : ℕ) (T W L Y X V : Matrix)
       (λ s row.
       at-cut X 0 0 r X.cols r n (omega arith) (omega (arith, x_cols)) s (j - k) row short ∙ first X s (j - k)
       ∙ sym (at-new s j (omega (arith, row, within)) from inside))
+
+  pub is_solved_behind : ((i j : ℕ) → r ≤ i → i < m → j < n → at X i j ≡ at Y i j) → IsSolvedBehind F r m k n T W L V
+  is_solved_behind rest = record { before = before_joined; solved = solved_joined; rest = rest_joined rest }

@@ -1,8 +1,8 @@
 -- Equations A X = B whose matrix was factored: the right sides are brought up to L, and E is solved by its pivot columns.
-use Rattle.std.proofs.Common.{◌≡◌, ◌≢◌, ℕ, ◌+◌, ◌-◌, ◌^◌, ◌<◌, ◌≤◌, eqb, ltb, cond, inl, inr, refl, sym, ◌∙◌, ap, ap₂, subst, arith, bit_xor, List, length, slice_index}
+use Rattle.std.proofs.Common.{◌≡◌, ◌≢◌, ℕ, ◌+◌, ◌-◌, ◌<◌, ◌≤◌, leb, inl, inr, refl, sym, ◌∙◌, ap, ap₂, subst, arith, bit_xor, List, length, slice_index}
 use Rattle.std.proofs.lemmas.Nat.{xor_comm}
-use Rattle.std.proofs.lemmas.Bool.{cases_lt, cases_order, cond-true, cond-false, eq-eqb, ne_eqb, lt-ltb, le-ltb}
-use Rattle.m4_model.specs.Field.{Field, gf2, mul}
+use Rattle.std.proofs.lemmas.Bool.{cases_lt, cases_order, cond-true, cond-false, le-leb, lt-leb}
+use Rattle.m4_model.specs.Field.{Field, mul}
 use Rattle.m4_model.specs.Matrix.{Matrix, IsMatrix, HasShape, at, added, identity, product}
 use Rattle.m4_model.specs.Shapes.{cut}
 use Rattle.m4_model.specs.Rank.{IsFree, IsRising, ArePivots}
@@ -11,7 +11,7 @@ use Rattle.m4_model.specs.Step.{reordered, upper_triangle, lower_rows}
 use Rattle.m4_model.proofs.FieldLaws.{FieldLaws}
 use Rattle.m4_model.proofs.SumLemmas.{sum_below-short, xor_off, mul-zero_left}
 use Rattle.m4_model.proofs.ProductLemmas.{times, times-same, times-split, times_assoc, times-zero_row, times-unit_row, times-unit_col, unit_at, unit_at-same, unit_at-other}
-use Rattle.m4_model.proofs.ShapeLemmas.{HasShape-own, IsElement-shape, at-matrix_of, same_entries, at-added, at-product, HasShape-product}
+use Rattle.m4_model.proofs.ShapeLemmas.{HasShape-own, IsElement-shape, same_entries, at-added, at-product, HasShape-product}
 use Rattle.m4_model.proofs.RingLemmas.{product_assoc, product-identity_left}
 use Rattle.m4_model.proofs.BlockLemmas.{same_rows, at-picked_rows, HasShape-picked_rows}
 use Rattle.m4_model.proofs.CutLemmas.{at-cut, HasShape-cut}
@@ -21,19 +21,9 @@ use Rattle.m4_model.proofs.FactorLemmas.{at-stored_upper}
 use Rattle.m4_model.proofs.RankLemmas.{pivots_of_ple}
 use Rattle.m4_model.proofs.TriangleLemmas.{inverse_of_unit_lower}
 use Rattle.m4_ple.specs.Held.{HoldsPle}
-use Rattle.m4_trsm.specs.Triangles.{inside, unit_upper}
-use Rattle.m4_trsm.specs.declared.side.Side.TheVariants.{Upper}
-use Rattle.m4_trsm.proofs.Triangles.{triangle_is, HasShape-triangle}
 use Rattle.m4_eple.specs.Halves.{IsBroughtUp}
-use Rattle.m4_solve.specs.Equations.{IsGathered, IsPlaced, IsZeroFrom}
+use Rattle.m4_solve.specs.Equations.{IsPlaced, IsZeroFrom, upper_entry}
 use Rattle.m4_eple.proofs.StepParts.{held_triangle, held_lower}
-
--- a bit that isn't 0
-one_from : (x : ℕ) → x < 2 → x ≢ 0 → x ≡ 1
-one_from x small some = elim (cases_lt x 1) [
-  | inl none ↦ absurd (some (omega (arith, none)))
-  | inr one ↦ omega (arith, small, one)
-]
 
 module _ (A B W Y : Matrix) (p q : List ℕ) (laws : FieldLaws A.field) (is_matrix : IsMatrix A) (b : HasShape A.field A.rows B.cols B)
     (w : HasShape A.field A.rows A.cols W) (y : HasShape A.field A.rows B.cols Y) (holds : HoldsPle A p q W) (in_cols : length q ≤ A.cols)
@@ -227,44 +217,30 @@ module _ (A B W Y : Matrix) (p q : List ℕ) (laws : FieldLaws A.field) (is_matr
   pivot_in s inside = are_pivots.columns s inside
 
   -- E at its pivots
-  at_pivots : (i s : ℕ) → A.field ≡ gf2 → i < length q → s < length q → at holds.e i (slice_index q s) ≡ cond (eqb i s) 1 (cond (ltb i s) (at W i (slice_index q s)) 0)
-  at_pivots i s over below inside = elim (cases_order i s) [
-    | inl same ↦
-        let here : at holds.e i (slice_index q i) < 2 ^ A.field.degree = IsElement-shape e i (slice_index q i) (omega (arith, below, in_rows)) (pivot_in i below) in
-        let small : at holds.e i (slice_index q i) < 2 = subst (λ (F : Field). at holds.e i (slice_index q i) < 2 ^ F.degree) over here in
-        let one : at holds.e i (slice_index q i) ≡ 1 = one_from (at holds.e i (slice_index q i)) small (holds.factors.e_form.nonzero i below) in
-        ap (λ (s : ℕ). at holds.e i (slice_index q s)) (sym same) ∙ one ∙ sym (cond-true (eqb i s) _ _ (eq-eqb i s same))
-    | inr other ↦ elim other [
-      | inl over_it ↦
-          let least : i ≤ slice_index q s = let h = rising-at_least q s rising inside in omega (arith, h, over_it) in
-          let from : slice_index q i ≤ slice_index q s = let h = rising i s over_it inside in omega (arith, h) in
-          sym (at-stored_upper e q holds.l W holds.stored i (slice_index q s) (omega (arith, below, in_rows)) (pivot_in s inside) below least from)
-          ∙ sym (cond-false (eqb i s) _ _ (ne_eqb i s (λ same. absurd (omega (arith, same, over_it)))) ∙ cond-true (ltb i s) _ _ (lt-ltb i s over_it))
-      | inr under ↦
-          holds.factors.e_form.before i (slice_index q s) below (rising s i under below)
-          ∙ sym (cond-false (eqb i s) _ _ (ne_eqb i s (λ same. absurd (omega (arith, same, under)))) ∙ cond-false (ltb i s) _ _ (le-ltb i s (omega (arith, under))))
-    ]
+  at_pivots : (i s : ℕ) → i < length q → s < length q → at holds.e i (slice_index q s) ≡ upper_entry W q i s
+  at_pivots i s below inside = elim (cases_lt s i) [
+    | inl under ↦
+        holds.factors.e_form.before i (slice_index q s) below (rising s i under below)
+        ∙ sym (cond-false (leb i s) (at W i (slice_index q s)) 0 (lt-leb i s under))
+    | inr over ↦
+        let least : i ≤ slice_index q s = let h = rising-at_least q s rising inside in omega (arith, h, over) in
+        sym (at-stored_upper e q holds.l W holds.stored i (slice_index q s) (omega (arith, below, in_rows)) (pivot_in s inside) below least (from i s over inside))
+        ∙ sym (cond-true (leb i s) (at W i (slice_index q s)) 0 (le-leb i s over))
   ]
+    where
+      from : (i s : ℕ) → i ≤ s → s < length q → slice_index q i ≤ slice_index q s
+      from i s over inside = elim (cases_order i s) [
+        | inl same ↦ subst (λ (s : ℕ). slice_index q i ≤ slice_index q s) same (omega arith)
+        | inr other ↦ elim other [
+          | inl before ↦ let h = rising i s before inside in omega (arith, h)
+          | inr after ↦ absurd (omega (arith, after, over))
+        ]
+      ]
 
-  module _ (over : A.field ≡ gf2) (G Z X : Matrix) (gathered : IsGathered W q G) (z : HasShape A.field A.rows B.cols Z) (x : IsPlaced Z q A.cols X)
-      (solved : product (unit_upper G) (cut Z 0 0 (length q) Z.cols) ≡ cut Y 0 0 (length q) Y.cols) (none_left : IsZeroFrom (length q) Y) where
-    g : HasShape A.field (length q) (length q) G
-    g = subst (λ (F : Field). HasShape F (length q) (length q) G) w.over gathered.shape
-
+  module _ (Z X : Matrix) (z : HasShape A.field A.rows B.cols Z) (x : IsPlaced Z q A.cols X)
+      (solved : (i j : ℕ) → i < length q → j < B.cols → at Y i j ≡ times A.field (length q) (upper_entry W q) (at Z) i j) (none_left : IsZeroFrom (length q) Y) where
     pub x_shape : HasShape A.field A.cols B.cols X
     x_shape = subst (λ (F : Field). HasShape F A.cols B.cols X) z.over (subst (λ (n : ℕ). HasShape Z.field A.cols n X) z.cols x.shape)
-
-    first : HasShape A.field (length q) B.cols (cut Z 0 0 (length q) Z.cols)
-    first =
-        let cols = z.cols in
-        HasShape-cut z 0 0 (length q) Z.cols (length q) B.cols (omega arith) (omega (arith, cols)) in_rows (omega (arith, cols))
-
-    at-first : (t j : ℕ) → t < length q → j < B.cols → at (cut Z 0 0 (length q) Z.cols) t j ≡ at Z t j
-    at-first t j below within =
-        let cols = z.cols in
-        let row : 0 + t ≡ t = omega arith in
-        let col : 0 + j ≡ j = omega arith in
-        at-cut Z 0 0 (length q) Z.cols (length q) B.cols (omega arith) (omega (arith, cols)) t j below within ∙ ap₂ (at Z) row col
 
     -- a one in row q_s of column s
     abbrev place : ℕ → ℕ → ℕ
@@ -286,47 +262,37 @@ module _ (A B W Y : Matrix) (p q : List ℕ) (laws : FieldLaws A.field) (is_matr
     ]
 
     -- X by rows of Z
-    placed : (t j : ℕ) → t < A.cols → j < B.cols → at X t j ≡ times A.field (length q) place (at (cut Z 0 0 (length q) Z.cols)) t j
+    placed : (t j : ℕ) → t < A.cols → j < B.cols → at X t j ≡ times A.field (length q) place (at Z) t j
     placed t j below within = elim (place_of q t) [
       | inl found ↦
+          let inside = found.1 in
           ap (λ (t : ℕ). at X t j) (sym found.2)
           ∙ x.at_pivot found.0 j found.1 (let h = z.cols in omega (arith, h, within))
-          ∙ sym (at-first found.0 j found.1 within)
-          ∙ sym (times-unit_row A.field laws (length q) place (at (cut Z 0 0 (length q) Z.cols)) t j found.0 found.1
-          (λ u inside. same_units found.0 u t found.1 inside found.2) (IsElement-shape first found.0 j found.1 within))
+          ∙ sym (times-unit_row A.field laws (length q) place (at Z) t j found.0 found.1
+          (λ u inside. same_units found.0 u t found.1 inside found.2) (IsElement-shape z found.0 j (omega (arith, inside, in_rows)) within))
       | inr none ↦
           x.elsewhere t j below (let h = z.cols in omega (arith, h, within)) none
-          ∙ sym (times-zero_row A.field laws (length q) place (at (cut Z 0 0 (length q) Z.cols)) t j (λ u inside.
+          ∙ sym (times-zero_row A.field laws (length q) place (at Z) t j (λ u inside.
           unit_at-other t (slice_index q u) (λ same. none u inside (sym same))))
     ]
 
     -- E's pivot columns are the triangle
-    pivot_columns : (i s : ℕ) → i < length q → s < length q → times A.field A.cols (at holds.e) place i s ≡ at (unit_upper G) i s
+    pivot_columns : (i s : ℕ) → i < length q → s < length q → times A.field A.cols (at holds.e) place i s ≡ upper_entry W q i s
     pivot_columns i s below within =
         times-unit_col A.field laws A.cols (at holds.e) place i s (slice_index q s) (pivot_in s within) (λ t under. refl)
         (IsElement-shape e i (slice_index q s) (omega (arith, below, in_rows)) (pivot_in s within))
-        ∙ at_pivots i s over below within
-        ∙ ap (λ (x : ℕ). cond (eqb i s) 1 (cond (ltb i s) x 0)) (sym (gathered.columns i s below within))
-        ∙ sym (ap (λ (T : Matrix). at T i s) (triangle_is A.field is_matrix.over_field Upper G (length q) g)
-        ∙ at-matrix_of A.field (length q) (length q) (λ i j. cond (eqb i j) 1 (inside Upper G i j)) i s below within)
-
-    triangle_shape : HasShape A.field (length q) (length q) (unit_upper G)
-    triangle_shape =
-        subst (HasShape A.field (length q) (length q)) (sym (triangle_is A.field is_matrix.over_field Upper G (length q) g))
-        (HasShape-triangle A.field is_matrix.over_field Upper G (length q) g)
+        ∙ at_pivots i s below within
 
     made : product holds.e X ≡ Y
     made = same_entries (HasShape-product e x_shape laws) y (λ i j below within. elim (cases_lt i (length q)) [
       | inl early ↦
           at-product e x_shape i j below within
-          ∙ times-same A.field A.cols (at holds.e) (at X) (at holds.e) (times A.field (length q) place (at (cut Z 0 0 (length q) Z.cols))) i j i j
+          ∙ times-same A.field A.cols (at holds.e) (at X) (at holds.e) (times A.field (length q) place (at Z)) i j i j
           (λ t under. refl) (λ t under. placed t j under within)
-          ∙ sym (times_assoc A.field laws A.cols (length q) (at holds.e) place (at (cut Z 0 0 (length q) Z.cols)) i j)
-          ∙ times-same A.field (length q) (times A.field A.cols (at holds.e) place) (at (cut Z 0 0 (length q) Z.cols)) (at (unit_upper G)) (at (cut Z 0 0 (length q) Z.cols)) i j i j
+          ∙ sym (times_assoc A.field laws A.cols (length q) (at holds.e) place (at Z) i j)
+          ∙ times-same A.field (length q) (times A.field A.cols (at holds.e) place) (at Z) (upper_entry W q) (at Z) i j i j
           (λ s under. pivot_columns i s early under) (λ s under. refl)
-          ∙ sym (at-product triangle_shape first i j early within)
-          ∙ ap (λ (C : Matrix). at C i j) solved
-          ∙ at-top i j early within
+          ∙ sym (solved i j early within)
       | inr late ↦
           at-product e x_shape i j below within
           ∙ times-zero_row A.field laws A.cols (at holds.e) (at X) i j (λ t under. zero_below i t late below under)

@@ -11,7 +11,7 @@ use Rattle.m4_mzd.specs.Parts.{part, with_part}
 use Rattle.m4_mzd.proofs.PlaceLemmas.{length-part, get_or-with_part_before, get_or-with_part_within}
 use Rattle.m4_trsm.specs.Triangles.{unit_upper}
 use Rattle.m4_solve.specs.Equations.{IsGathered}
-use Rattle.m4_solve.specs.Factored.{IsBackSolved}
+use Rattle.m4_solve.specs.Factored.{IsUnitSolved}
 
 -- Of the first i rows of K the entries from column c on are `count` entries of W's from column d on, and all else is as in K0.
 pub record AreRowsCopied (W K0 : Matrix) (c d count i : ℕ) (K : Matrix) : Type 0 where
@@ -136,9 +136,9 @@ first_gathered W q is_matrix in_rows in_cols own = record {
 }
 
 -- what a solve with the gathered columns leaves
-pub back_solved : (W Y Z T : Matrix) (q : List ℕ) → HasShape Y.field Y.rows Y.cols Z → IsGathered W q T → (n : ℕ) → n ≡ length q
-    → product (unit_upper T) (cut Z 0 0 n Z.cols) ≡ cut Y 0 0 n Y.cols → IsBackSolved W q Y Z
-back_solved W Y Z T q shape gathered n count solved = record {
+pub unit_solved : (W Y Z T : Matrix) (q : List ℕ) → HasShape Y.field Y.rows Y.cols Z → IsGathered W q T → (n : ℕ) → n ≡ length q
+    → product (unit_upper T) (cut Z 0 0 n Z.cols) ≡ cut Y 0 0 n Y.cols → IsUnitSolved W q Y Z
+unit_solved W Y Z T q shape gathered n count solved = record {
   shape = shape;
   gathered = T;
   is_gathered = gathered;

@@ -2,13 +2,12 @@
 use Rattle.std.proofs.Common.{◌≡◌, ◌≢◌, ℕ, ◌<◌, ◌≤◌, ⊎_elim, refl, sym, ◌∙◌, ap, ap₂, subst, arith, List, length, slice_index, bit_xor, Contains, ◌==◌, if◌then◌else◌}
 use Rattle.std.specs.Int.Bits.{xor_assoc, xor_comm, xor_self, xor_zero_l, xor_zero_r}
 use Rattle.std.proofs.lemmas.Bool.{cases_lt, cases_eq, cases_order, eq-eqb, ne_eqb}
-use Rattle.m4_model.specs.Field.{Field, gf2, mul}
+use Rattle.m4_model.specs.Field.{Field, mul}
 use Rattle.m4_model.specs.Matrix.{Matrix, IsMatrix, HasShape, at, product, zero_matrix}
 use Rattle.m4_model.specs.Shapes.{transposed}
 use Rattle.m4_model.specs.Rank.{IsRising, ArePivots, IsFree}
 use Rattle.m4_model.specs.Forms.{IsKernel, AreFree}
 use Rattle.m4_model.proofs.FieldLaws.{FieldLaws}
-use Rattle.m4_model.proofs.Gf2Lemmas.{gf2_laws}
 use Rattle.m4_model.proofs.SumLemmas.{sum_below-zero, sum_below-single, mul-zero_left}
 use Rattle.m4_model.proofs.ProductLemmas.{times, times-same, times-xor_right, times-unit_col, times-zero_col, times_assoc, unit_at, unit_at-same, unit_at-other}
 use Rattle.m4_model.proofs.ShapeLemmas.{HasShape-own, IsElement-shape, at-product, at-transposed, at-zero_matrix, same_entries, HasShape-product, HasShape-transposed, HasShape-zero_matrix}
@@ -27,22 +26,19 @@ rising_apart g i t rising first second other same = ⊎_elim
     (λ (after : t < i). let rises = rising t i after first in absurd (omega (arith, rises, same))))
     (cases_order i t)
 
-module _ (A R K : Matrix) (q g : List ℕ) (over : A.field ≡ gf2) (reduced : IsReducedAt R A q) (others : AreOthers A.cols q g)
+module _ (A R K : Matrix) (q g : List ℕ) (laws : FieldLaws A.field) (reduced : IsReducedAt R A q) (others : AreOthers A.cols q g)
     (basis : IsKernelBasis R q g K) where
-  laws : FieldLaws A.field
-  laws = subst FieldLaws (sym over) gf2_laws
-
   is_matrix : IsMatrix A
-  is_matrix = matrix_at over reduced
+  is_matrix = matrix_at laws reduced
 
   pivots : ArePivots A q
-  pivots = pivots_at over reduced
+  pivots = pivots_at laws reduced
 
   width : R.cols ≡ A.cols
   width = reduced.form.shape.cols
 
   k_shape : HasShape A.field (length g) A.cols K
-  k_shape = subst (λ (F : Field). HasShape F (length g) A.cols K) (sym over) (subst (λ (n : ℕ). HasShape gf2 (length g) n K) width basis.shape)
+  k_shape = subst (λ (F : Field). HasShape F (length g) A.cols K) reduced.form.shape.over (subst (λ (n : ℕ). HasShape R.field (length g) n K) width basis.shape)
 
   k_cols : K.cols ≡ A.cols
   k_cols = k_shape.cols

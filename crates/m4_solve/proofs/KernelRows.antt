@@ -1,13 +1,12 @@
--- The numbers that aren't pivots are listed, and the rows of the basis are filled run by run.
-use Rattle.std.proofs.Common.{◌≡◌, ◌≢◌, ℕ, ◌+◌, ◌-◌, ◌<◌, ◌≤◌, ◌⊎◌, inl, inr, ⊎_elim, refl, sym, ◌∙◌, ap, subst, arith, List, [], ◌∷◌, ◌++◌, length, slice_index, get_or, set, length-append}
+-- The numbers that aren't pivots are listed, and the rows of the basis are filled run by run of the pivots.
+use Rattle.std.proofs.Common.{◌≡◌, ◌≢◌, ℕ, ◌+◌, ◌-◌, ◌<◌, ◌≤◌, ◌⊎◌, inl, inr, ⊎_elim, refl, sym, ◌∙◌, ap, subst, arith, List, [], ◌∷◌, ◌++◌, length, slice_index, get_or, get_or-take, get_or-drop, drop, take, set, length-append}
 use Rattle.std.proofs.lemmas.Bool.{cases_lt}
 use Rattle.std.proofs.lemmas.List.{length-set, get_or-set_same, get_or-set_other, get_or_append_left, get_or-append_right}
 use Rattle.m4_model.specs.Matrix.{Matrix, row, at, with_entry, with_row}
 use Rattle.m4_model.specs.Rank.{IsRising}
 use Rattle.m4_model.proofs.EchelonLemmas.{rising-le}
-use Rattle.m4_mzd.specs.Window.{Window, content, showing}
-use Rattle.m4_mzd.specs.Parts.{with_part}
-use Rattle.m4_mzd.proofs.PlaceLemmas.{length-with_part, get_or-with_part_before, get_or-with_part_within, get_or-with_part_past}
+use Rattle.m4_mzd.specs.Parts.{part, with_part}
+use Rattle.m4_mzd.proofs.PlaceLemmas.{length-part, get_or-with_part_before, get_or-with_part_within, get_or-with_part_past}
 use Rattle.m4_solve.specs.Kernel.{IsKernelRow, AreFilledTo}
 
 -- The numbers below j are parted: the first ones of q, and those of g.
@@ -93,128 +92,129 @@ at-written_beside A r c x j in_rows other =
 pub at-written_away : (A : Matrix) (r c x i j : ℕ) → i ≢ r → at (with_entry A r c x) i j ≡ at A i j
 at-written_away A r c x i j other = ap (λ (xs : List ℕ). get_or xs j 0) (get_or-set_other A.entries r i (set (row A r) c x) [] other)
 
--- a window that was written twice
-pub written_again : (a b c : Window) (A : Matrix) → b ≡ showing a (content b) → c ≡ showing b A → c ≡ showing a (content c)
-written_again a b c A first second =
-    second ∙ ap (λ (w : Window). record b { bits = w.bits }) (sym second) ∙ ap (λ (w : Window). showing w (content c)) first
-
--- Row t of K is filled for column g and the first s pivots; it was zero in K0, whose other rows stay.
-pub record IsFilledTo (R : Matrix) (q : List ℕ) (g t s : ℕ) (K0 K : Matrix) : Type 0 where
-  pub rows : K.rows ≡ K0.rows
-  pub cols : K.cols ≡ K0.cols
+-- The first t rows of K are made of those of K0 by f, and the others are those of K0.
+pub record AreMadeTo (f : ℕ → List ℕ → List ℕ) (t : ℕ) (K0 K : Matrix) : Type 0 where
   pub height : length K.entries ≡ length K0.entries
-  pub width : length (row K t) ≡ length (row K0 t)
-  pub own : at K t g ≡ 1
-  pub at_pivots : (u : ℕ) → u < s → at K t (slice_index q u) ≡ at R u g
-  pub elsewhere : (j : ℕ) → j < K0.cols → j ≢ g → ((u : ℕ) → u < s → slice_index q u ≢ j) → at K t j ≡ 0
-  pub others : (i j : ℕ) → i ≢ t → at K i j ≡ at K0 i j
+  pub made : (u : ℕ) → u < t → row K u ≡ f u (row K0 u)
+  pub later : (u : ℕ) → t ≤ u → row K u ≡ row K0 u
 
-module _ (R : Matrix) (q : List ℕ) (g t : ℕ) (K0 : Matrix) (in_rows : t < length K0.entries) where
-  width_written : (A : Matrix) (c x : ℕ) → t < length A.entries → length (row (with_entry A t c x) t) ≡ length (row A t)
-  width_written A c x inside = ap length (get_or-set_same A.entries t (set (row A t) c x) [] inside) ∙ length-set (row A t) c x
-
-  -- the free column itself
-  pub filled_start : g < length (row K0 t) → ((j : ℕ) → j < K0.cols → at K0 t j ≡ 0) → IsFilledTo R q g t 0 K0 (with_entry K0 t g 1)
-  filled_start in_cols zeros = record {
-    rows = refl;
-    cols = refl;
-    height = length-set K0.entries t (set (row K0 t) g 1);
-    width = width_written K0 g 1 in_rows;
-    own = at-written K0 t g 1 in_rows in_cols;
-    at_pivots = λ u before. absurd (omega (arith, before));
-    elsewhere = λ j inside other none. at-written_beside K0 t g 1 j in_rows other ∙ zeros j inside;
-    others = λ i j away. at-written_away K0 t g 1 i j away;
-  }
-
-  -- one run of pivots more
-  module _ (s count : ℕ) (ys : List ℕ) (K : Matrix) (rising : IsRising q) (some : 0 < count) (fits : s + count ≤ length q)
-      (run : (u : ℕ) → u < count → slice_index q (s + u) ≡ slice_index q s + u) (long : length ys ≡ count)
-      (entries : (u : ℕ) → u < count → get_or ys u 0 ≡ at R (s + u) g) (in_cols : slice_index q s + count ≤ length (row K0 t))
-      (apart : (u : ℕ) → u < length q → slice_index q u ≢ g) (old : IsFilledTo R q g t s K0 K) where
-    here : t < length K.entries
-    here = let height = old.height in omega (arith, height, in_rows)
-
-    room : slice_index q s + length ys ≤ length (row K t)
-    room = let width = old.width in omega (arith, width, in_cols, long)
-
-    own_row : row (with_row K t (with_part (slice_index q s) ys (row K t))) t ≡ with_part (slice_index q s) ys (row K t)
-    own_row = get_or-set_same K.entries t (with_part (slice_index q s) ys (row K t)) [] here
-
-    away_row : (i : ℕ) → i ≢ t → row (with_row K t (with_part (slice_index q s) ys (row K t))) i ≡ row K i
-    away_row i other = get_or-set_other K.entries t i (with_part (slice_index q s) ys (row K t)) [] other
-
-    -- an entry that is none of the run's
-    outside : (j : ℕ) → ((u : ℕ) → u < count → slice_index q (s + u) ≢ j) → at (with_row K t (with_part (slice_index q s) ys (row K t))) t j ≡ at K t j
-    outside j none =
-        ap (λ (xs : List ℕ). get_or xs j 0) own_row ∙ ⊎_elim
-        (λ (before : j < slice_index q s). get_or-with_part_before (slice_index q s) ys (row K t) room j before)
-        (λ (from : slice_index q s ≤ j). ⊎_elim
-        (λ (inside : j < slice_index q s + count).
-        let place = run (j - slice_index q s) (omega (arith, from, inside)) in
-        absurd (none (j - slice_index q s) (omega (arith, from, inside)) (omega (arith, place, from))))
-        (λ (past : slice_index q s + count ≤ j). get_or-with_part_past (slice_index q s) ys (row K t) room j (omega (arith, past, long)))
-        (cases_lt j (slice_index q s + count)))
-        (cases_lt j (slice_index q s))
-
-    pub filled_run : IsFilledTo R q g t (s + count) K0 (with_row K t (with_part (slice_index q s) ys (row K t)))
-    filled_run =
-        let height = old.height in
-        let width = old.width in
-        record {
-          rows = old.rows;
-          cols = old.cols;
-          height = length-set K.entries t (with_part (slice_index q s) ys (row K t)) ∙ height;
-          width = ap length own_row ∙ length-with_part (slice_index q s) ys (row K t) room ∙ width;
-          own = outside g (λ u inside. apart (s + u) (omega (arith, inside, fits))) ∙ old.own;
-          at_pivots = λ u before. ⊎_elim
-              (λ (earlier : u < s).
-              outside (slice_index q u) (λ v inside same.
-              let rises = rising u (s + v) (omega (arith, earlier)) (omega (arith, inside, fits)) in absurd (omega (arith, rises, same)))
-              ∙ old.at_pivots u earlier)
-              (λ (from : s ≤ u).
-              let place : s + (u - s) ≡ u = omega (arith, from) in
-              let short : u - s < count = omega (arith, from, before) in
-              let column : slice_index q u ≡ slice_index q s + (u - s) = ap (slice_index q) (sym place) ∙ run (u - s) short in
-              let offset : slice_index q s + (u - s) - slice_index q s ≡ u - s = omega arith in
-              ap (λ (xs : List ℕ). get_or xs (slice_index q u) 0) own_row
-              ∙ ap (λ (j : ℕ). get_or (with_part (slice_index q s) ys (row K t)) j 0) column
-              ∙ get_or-with_part_within (slice_index q s) ys (row K t) room (slice_index q s + (u - s)) (omega arith) (omega (arith, short, long))
-              ∙ ap (λ (j : ℕ). get_or ys j 0) offset
-              ∙ entries (u - s) short
-              ∙ ap (λ (u : ℕ). at R u g) place)
-              (cases_lt u s);
-          elsewhere = λ j within other none.
-              outside j (λ v inside. none (s + v) (omega (arith, inside)))
-              ∙ old.elsewhere j within other (λ u earlier. none u (omega (arith, earlier)));
-          others = λ i j away. ap (λ (xs : List ℕ). get_or xs j 0) (away_row i away) ∙ old.others i j away;
-        }
-
--- all pivots are filled in
-pub filled_all : (R : Matrix) (q : List ℕ) (g t s : ℕ) (K0 K : Matrix) → s ≡ length q → IsFilledTo R q g t s K0 K → IsKernelRow R q g t K
-filled_all R q g t s K0 K all filled =
-    let cols = filled.cols in
-    record {
-      own = filled.own;
-      at_pivots = λ u inside. filled.at_pivots u (omega (arith, inside, all));
-      elsewhere = λ j within other none. filled.elsewhere j (omega (arith, within, cols)) other (λ u before. none u (omega (arith, before, all)));
-    }
+pub made_none : (f : ℕ → List ℕ → List ℕ) (K : Matrix) → AreMadeTo f 0 K K
+made_none f K = record {
+  height = refl;
+  made = λ u before. absurd (omega (arith, before));
+  later = λ u from. refl;
+}
 
 -- one row more
-pub rows_more : (R : Matrix) (q g : List ℕ) (t : ℕ) (K N : Matrix) → AreFilledTo R q g t K → N.rows ≡ K.rows → N.cols ≡ K.cols
-    → IsKernelRow R q (slice_index g t) t N → ((i j : ℕ) → i ≢ t → at N i j ≡ at K i j) → AreFilledTo R q g (t + 1) N
-rows_more R q g t K N old rows cols own others = record {
+pub made_more : (f : ℕ → List ℕ → List ℕ) (t : ℕ) (K0 K : Matrix) → t < length K0.entries → AreMadeTo f t K0 K → AreMadeTo f (t + 1) K0 (with_row K t (f t (row K t)))
+made_more f t K0 K in_rows old =
+    let xs = f t (row K t) in
+    let height = old.height in
+    let here : row (with_row K t xs) t ≡ xs = get_or-set_same K.entries t xs [] (omega (arith, height, in_rows)) in
+    let away : (u : ℕ) → u ≢ t → row (with_row K t xs) u ≡ row K u = λ u other. get_or-set_other K.entries t u xs [] other in
+    record {
+      height = length-set K.entries t xs ∙ height;
+      made = λ u before. ⊎_elim
+          (λ (earlier : u < t). away u (λ same. absurd (omega (arith, same, earlier))) ∙ old.made u earlier)
+          (λ (last : t ≤ u).
+          let same : t ≡ u = omega (arith, before, last) in
+          subst (λ (u : ℕ). row (with_row K t xs) u ≡ f u (row K0 u)) same (here ∙ ap (f t) (old.later t (omega arith))))
+          (cases_lt u t);
+      later = λ u from. away u (λ same. absurd (omega (arith, same, from))) ∙ old.later u (omega (arith, from));
+    }
+
+-- rows in which an entry became 1
+module _ (K0 K : Matrix) (g : List ℕ) (t : ℕ) (done : row K t ≡ set (row K0 t) (slice_index g t) 1) where
+  pub one_put : slice_index g t < length (row K0 t) → at K t (slice_index g t) ≡ 1
+  one_put inside = ap (λ (xs : List ℕ). get_or xs (slice_index g t) 0) done ∙ get_or-set_same (row K0 t) (slice_index g t) 1 0 inside
+
+  pub one_beside : (j : ℕ) → j ≢ slice_index g t → at K t j ≡ at K0 t j
+  one_beside j other = ap (λ (xs : List ℕ). get_or xs j 0) done ∙ get_or-set_other (row K0 t) (slice_index g t) j 1 0 other
+
+-- a row in which entries were copied from another
+module _ (xs zs ys : List ℕ) (c d count : ℕ) (done : ys ≡ with_part c (part d count zs) xs) (source : d + count ≤ length zs) (target : c + count ≤ length xs) where
+  long : length (part d count zs) ≡ count
+  long = length-part d count zs source
+
+  room : c + length (part d count zs) ≤ length xs
+  room = let own = long in omega (arith, own, target)
+
+  pub part_within : (u : ℕ) → u < count → slice_index ys (c + u) ≡ slice_index zs (d + u)
+  part_within u inside =
+      let own = long in
+      let place : c + u - c ≡ u = omega arith in
+      ap (λ (xs : List ℕ). get_or xs (c + u) 0) done
+      ∙ get_or-with_part_within c (part d count zs) xs room (c + u) (omega arith) (omega (arith, own, inside))
+      ∙ ap (λ (j : ℕ). get_or (part d count zs) j 0) place
+      ∙ get_or-take count (drop d zs) u 0 inside
+      ∙ get_or-drop d zs u 0
+
+  pub part_outside : (j : ℕ) → ((u : ℕ) → u < count → c + u ≢ j) → slice_index ys j ≡ slice_index xs j
+  part_outside j none =
+      let own = long in
+      ap (λ (xs : List ℕ). get_or xs j 0) done ∙ ⊎_elim
+      (λ (before : j < c). get_or-with_part_before c (part d count zs) xs room j before)
+      (λ (from : c ≤ j). ⊎_elim
+      (λ (inside : j < c + count). absurd (none (j - c) (omega (arith, from, inside)) (omega (arith, from))))
+      (λ (past : c + count ≤ j). get_or-with_part_past c (part d count zs) xs room j (omega (arith, past, own)))
+      (cases_lt j (c + count)))
+      (cases_lt j c)
+
+-- the ones alone
+pub filled_start : (R K : Matrix) (q g : List ℕ) → K.rows ≡ length g → K.cols ≡ R.cols → ((t : ℕ) → t < length g → at K t (slice_index g t) ≡ 1)
+    → ((t j : ℕ) → t < length g → j < K.cols → j ≢ slice_index g t → at K t j ≡ 0) → AreFilledTo R q g 0 K
+filled_start R K q g rows cols ones zeros = record {
+  rows = rows;
+  cols = cols;
+  filled = λ t inside. record {
+    own = ones t inside;
+    at_pivots = λ u before. absurd (omega (arith, before));
+    elsewhere = λ j within other none. zeros t j inside within other;
+  };
+}
+
+-- one run of pivots more
+pub filled_run : (R K N : Matrix) (q g : List ℕ) (s count : ℕ) → IsRising q → s + count ≤ length q
+    → ((u : ℕ) → u < count → slice_index q (s + u) ≡ slice_index q s + u)
+    → ((t u : ℕ) → t < length g → u < length q → slice_index q u ≢ slice_index g t)
+    → N.rows ≡ K.rows → N.cols ≡ K.cols
+    → ((t u : ℕ) → t < length g → u < count → at N t (slice_index q s + u) ≡ at R (s + u) (slice_index g t))
+    → ((t j : ℕ) → t < length g → ((u : ℕ) → u < count → slice_index q s + u ≢ j) → at N t j ≡ at K t j)
+    → AreFilledTo R q g s K → AreFilledTo R q g (s + count) N
+filled_run R K N q g s count rising fits run apart rows cols copied others old = record {
   rows = rows ∙ old.rows;
   cols = cols ∙ old.cols;
-  filled = λ u before. ⊎_elim
-      (λ (earlier : u < t).
-      let row = old.filled u earlier in
-      let away : u ≢ t = λ same. absurd (omega (arith, same, earlier)) in
+  filled = λ t inside.
+      let its = old.filled t inside in
       record {
-        own = others u (slice_index g u) away ∙ row.own;
-        at_pivots = λ s inside. others u (slice_index q s) away ∙ row.at_pivots s inside;
-        elsewhere = λ j within other none. others u j away ∙ row.elsewhere j (omega (arith, within, cols)) other none;
-      })
-      (λ (last : t ≤ u). let same : t ≡ u = omega (arith, before, last) in subst (λ (u : ℕ). IsKernelRow R q (slice_index g u) u N) same own)
-      (cases_lt u t);
-  zeros = λ u j from inside within. others u j (λ same. absurd (omega (arith, same, from))) ∙ old.zeros u j (omega (arith, from)) inside within;
+        own = others t (slice_index g t) inside (λ u below same. apart t (s + u) inside (omega (arith, below, fits)) (run u below ∙ same)) ∙ its.own;
+        at_pivots = λ u before. ⊎_elim
+            (λ (earlier : u < s).
+            others t (slice_index q u) inside (λ v below same.
+            let rises = rising u (s + v) (omega (arith, earlier)) (omega (arith, below, fits)) in
+            let place = run v below in
+            absurd (omega (arith, rises, place, same)))
+            ∙ its.at_pivots u earlier)
+            (λ (from : s ≤ u).
+            let place : s + (u - s) ≡ u = omega (arith, from) in
+            let short : u - s < count = omega (arith, from, before) in
+            ap (at N t) (ap (slice_index q) (sym place) ∙ run (u - s) short) ∙ copied t (u - s) inside short
+            ∙ ap (λ (u : ℕ). at R u (slice_index g t)) place)
+            (cases_lt u s);
+        elsewhere = λ j within other none.
+            others t j inside (λ v below same. none (s + v) (omega (arith, below)) (run v below ∙ same))
+            ∙ its.elsewhere j (omega (arith, within, cols)) other (λ u earlier. none u (omega (arith, earlier)));
+      };
+}
+
+-- The first k rows of R.
+abbrev pub top_rows : ℕ → Matrix → Matrix
+top_rows k R = record R { rows = k; entries = take k R.entries }
+
+-- a row that is read off them is read off R
+pub row_of_top : (R : Matrix) (q : List ℕ) (g t : ℕ) (K : Matrix) → IsKernelRow (top_rows (length q) R) q g t K → IsKernelRow R q g t K
+row_of_top R q g t K row = record {
+  own = row.own;
+  at_pivots = λ s inside. row.at_pivots s inside ∙ ap (λ (xs : List ℕ). get_or xs g 0) (get_or-take (length q) R.entries s [] inside);
+  elsewhere = row.elsewhere;
 }

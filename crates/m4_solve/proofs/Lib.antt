@@ -8,5 +8,8 @@ pub mod KernelRows
 pub mod Ranks
 pub mod Reached
 pub mod Risings
+pub mod ScaledEquations
+pub mod Scales
 pub mod Solved
 pub mod Units
+pub mod ZeroRows

@@ -1,12 +1,10 @@
 -- What a reduced form tells of its matrix: the pivots, the rank, and how many rows the basis of the kernel has.
 use Rattle.std.proofs.Common.{◌≡◌, ◌≢◌, ℕ, zero, suc, ◌+◌, ◌<◌, ◌≤◌, ⊎_elim, refl, sym, ◌∙◌, ap, subst, arith, List, length, slice_index}
 use Rattle.std.proofs.lemmas.Bool.{cases_lt}
-use Rattle.m4_model.specs.Field.{gf2}
 use Rattle.m4_model.specs.Matrix.{Matrix, IsMatrix}
 use Rattle.m4_model.specs.Rank.{IsRising, ArePivots, IsRank}
 use Rattle.m4_model.specs.Forms.{Reduced}
 use Rattle.m4_model.proofs.FieldLaws.{FieldLaws}
-use Rattle.m4_model.proofs.Gf2Lemmas.{gf2_laws}
 use Rattle.m4_model.proofs.ShapeLemmas.{HasShape-product}
 use Rattle.m4_model.proofs.EchelonLemmas.{place_of}
 use Rattle.m4_model.proofs.ExchangeLemmas.{rising_room}
@@ -42,11 +40,8 @@ pub pivots_seen : (items seen : List ℕ) (R M N : Matrix) → seen ≡ items �
 pivots_seen items seen R M N same made reduced =
     subst (λ (q : List ℕ). IsReducedAt R N q) (sym same) (subst (λ (M : Matrix). IsReducedAt R M items) made reduced)
 
--- what it tells of a matrix over GF(2)
-module _ {R A : Matrix} {q : List ℕ} (over : A.field ≡ gf2) (reduced : IsReducedAt R A q) where
-  laws : FieldLaws A.field
-  laws = subst FieldLaws (sym over) gf2_laws
-
+-- what it tells of a matrix over a field
+module _ {R A : Matrix} {q : List ℕ} (laws : FieldLaws A.field) (reduced : IsReducedAt R A q) where
   pub matrix_at : IsMatrix A
   matrix_at = subst IsMatrix (sym reduced.form.unmade) (HasShape-product reduced.form.back_shape reduced.form.shape laws).is_matrix
 

@@ -1,20 +1,23 @@
 -- What the factors of a matrix tell of its equations and of its inverse.
 use Rattle.std.proofs.Common.{◌≡◌, ◌≢◌, ℕ, ◌<◌, ◌≤◌, inl, inr, refl, sym, ◌∙◌, ap, subst, arith, List, length, slice_index, take, length-take-le, get_or-take}
-use Rattle.m4_model.specs.Field.{Field, gf2}
+use Rattle.m4_model.specs.Field.{Field}
 use Rattle.m4_model.specs.Matrix.{Matrix, IsMatrix, HasShape, at, identity}
 use Rattle.m4_model.specs.Shapes.{swaps}
 use Rattle.m4_model.specs.Rank.{IsFree, ArePivots}
 use Rattle.m4_model.specs.Step.{reordered}
 use Rattle.m4_model.specs.Forms.{IsSolution, NoSolution, IsInverse, Singular}
 use Rattle.m4_model.proofs.FieldLaws.{FieldLaws}
-use Rattle.m4_model.proofs.Gf2Lemmas.{gf2_laws}
+use Rattle.m4_model.proofs.FieldProofs.{field_laws}
+use Rattle.m4_model.proofs.ProductLemmas.{times}
+use Rattle.m4_model.proofs.ExchangeLemmas.{rising-at_least}
+use Rattle.m4_model.proofs.FactorLemmas.{at-stored_upper}
 use Rattle.m4_model.proofs.RankLemmas.{pivots_of_ple, Contains_none}
 use Rattle.m4_model.proofs.RingLemmas.{HasShape-one}
 use Rattle.m4_model.proofs.SingularLemmas.{singular_from_free, inverse_from_right}
 use Rattle.m4_perm.specs.Perm.{AreSwaps}
 use Rattle.m4_ple.specs.Held.{HoldsPle}
 use Rattle.m4_eple.specs.Halves.{IsBroughtUp}
-use Rattle.m4_solve.specs.Equations.{IsPlaced, IsZeroFrom}
+use Rattle.m4_solve.specs.Equations.{IsPlaced, IsZeroFrom, upper_entry}
 use Rattle.m4_solve.specs.Factored.{IsFactored, IsBackSolved}
 use Rattle.m4_solve.specs.declared.factored.Factored.{Factored}
 use Rattle.m4_solve.proofs.Risings.{first_missing, too_few}
@@ -41,13 +44,23 @@ factored_from A W f p q r matrix exchanges pivots room shape in_turn rows cols i
           (subst (HoldsPle A (swaps A.rows p) (take r q)) (sym matrix) holds));
     }
 
-module _ (A : Matrix) (f : Factored) (over : A.field ≡ gf2) (is_matrix : IsMatrix A) (factored : IsFactored A f) where
+module _ (A : Matrix) (f : Factored) (is_matrix : IsMatrix A) (factored : IsFactored A f) where
   laws : FieldLaws A.field
-  laws = subst FieldLaws (sym over) gf2_laws
+  laws = field_laws A.field is_matrix.over_field
 
   pub are_pivots : ArePivots A f.pivots.items
   are_pivots =
       pivots_of_ple A (swaps A.rows f.exchanges.items) f.pivots.items (length f.pivots.items) factored.holds.l factored.holds.e laws is_matrix factored.holds.factors
+
+  -- what stands at the pivots isn't zero
+  pub pivots_some : (s : ℕ) → s < length f.pivots.items → at f.matrix s (slice_index f.pivots.items s) ≢ 0
+  pivots_some s inside none =
+      let few = factored.few_rows in
+      let form = factored.holds.factors.e_form in
+      form.nonzero s inside
+      (sym (at-stored_upper factored.holds.factors.e_shape f.pivots.items factored.holds.l f.matrix factored.holds.stored s (slice_index f.pivots.items s)
+      (omega (arith, few, inside)) (factored.in_cols s inside) inside (rising-at_least f.pivots.items s form.rising inside) (omega arith))
+      ∙ none)
 
   module _ (B Y : Matrix) (b : HasShape A.field A.rows B.cols B) (y : HasShape B.field B.rows B.cols Y)
       (up : IsBroughtUp (length f.pivots.items) f.matrix (reordered (swaps B.rows f.exchanges.items) B) Y) where
@@ -71,8 +84,13 @@ module _ (A : Matrix) (f : Factored) (over : A.field ≡ gf2) (is_matrix : IsMat
         let z : HasShape A.field A.rows B.cols Z
         = subst (λ (n : ℕ). HasShape A.field A.rows n Z) y_shape.cols (subst (λ (m : ℕ). HasShape A.field m Y.cols Z) y_shape.rows
         (subst (λ (F : Field). HasShape F Y.rows Y.cols Z) y_shape.over solved.shape)) in
+        let cols = y_shape.cols in
+        let entries : (i j : ℕ) → i < length f.pivots.items → j < B.cols → at Y i j ≡ times A.field (length f.pivots.items) (upper_entry f.matrix f.pivots.items) (at Z) i j
+        = λ i j below within.
+        subst (λ (F : Field). at Y i j ≡ times F (length f.pivots.items) (upper_entry f.matrix f.pivots.items) (at Z) i j) y_shape.over
+        (solved.solved i j below (omega (arith, within, cols))) in
         solution_left A B f.matrix Y (swaps A.rows f.exchanges.items) f.pivots.items laws is_matrix b factored.shape y_shape factored.holds factored.few_cols up_of_a
-        over solved.gathered Z X solved.is_gathered z placed solved.solved none_left
+        Z X z placed entries none_left
 
   -- fewer pivots than columns
   pub singular_is : A.cols ≡ A.rows → length f.pivots.items < A.cols → Singular A

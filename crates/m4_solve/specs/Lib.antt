@@ -4,3 +4,4 @@ pub mod Equations
 pub mod Factored
 pub mod Kernel
 pub mod Reduction
+pub mod Scaled

@@ -1,12 +1,12 @@
 //! Answers that need not be a matrix.
 
-use m4_mzd::Mzd;
+use m4_mzed::Mzed;
 
 /// What `invert` answers.
 #[derive(Drop)]
 pub enum Inverse {
     /// The inverse.
-    Is(Mzd),
+    Is(Mzed),
     /// There is none: the matrix takes a column that isn't zero to zero.
     Singular,
 }
@@ -15,7 +15,7 @@ pub enum Inverse {
 #[derive(Drop)]
 pub enum Solution {
     /// A solution.
-    Is(Mzd),
+    Is(Mzed),
     /// There is none.
     NoSolution,
 }

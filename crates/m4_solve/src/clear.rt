@@ -1,6 +1,6 @@
 //! An echelon form whose pivots are ones is cleared above them by one triangular solve.
 
-ghost use Rattle.std.specs.Prelude.{◌≡◌, ℕ, ◌%◌, ◌^◌, ◌<◌, ◌≤◌, length, slice_index};
+ghost use Rattle.std.specs.Prelude.{◌≡◌, ℕ, ◌%◌, ◌<◌, ◌≤◌, length, slice_index};
 ghost use Rattle.m4_model.specs.Matrix.{at};
 ghost use Rattle.m4_model.specs.Forms.{Echelon, Reduced};
 ghost use Rattle.m4_model.proofs.EquivalenceLemmas.{RowEquivalent};
@@ -14,6 +14,7 @@ use crate::factored::solve_in_window;
 use crate::gather::gather_columns;
 use crate::runs::in_place;
 use m4_eple::BY_ROWS;
+use m4_mzd::MOST_SIDE;
 use m4_mzed::{EWin, EWinMut};
 use m4_newton::EAddMul;
 
@@ -59,7 +60,7 @@ pub(crate) fn clear_above<M: EAddMul>(
 
 /// How many of the first pivots stand in their own places, in whole words of 64.
 fn settled(pivots: &[u32]) -> u32
-    requires { length pivots.now ≤ 2 ^ 24 }
+    requires { length pivots.now ≤ MOST_SIDE }
     ensures within { result ≤ length pivots.now }
     ensures whole_words { result % 64 ≡ 0 }
     ensures places { (s : ℕ) → s < result → slice_index pivots.now s ≡ s }
@@ -98,7 +99,7 @@ fn solve_behind<M: EAddMul>(a: &mut EWinMut, done: u32, t: &EWin, engine: &mut M
 }
 
 /// Makes the columns of a window those of the identity.
-fn set_units(a: &mut EWinMut)
+pub(crate) fn set_units(a: &mut EWinMut)
     requires { a.old.cols ≤ a.old.rows }
     ensures kept { a.new ≡ showing a.old (content a.new) }
     ensures units { (i j : ℕ) → i < a.old.rows → j < a.old.cols → at (content a.new) i j ≡ unit_at i j }

@@ -1,6 +1,6 @@
 //! A matrix that is factored once, and right sides that are solved by its factors.
 
-ghost use Rattle.std.specs.Prelude.{◌≡◌, ◌⊎◌, ℕ, ◌<◌, ◌≤◌, length, slice_index, take, min, IfOk};
+ghost use Rattle.std.specs.Prelude.{◌≡◌, ◌≢◌, ◌⊎◌, ℕ, ◌<◌, ◌≤◌, length, slice_index, take, min, IfOk};
 ghost use Rattle.m4_model.specs.Matrix.{HasShape, at, product};
 ghost use Rattle.m4_model.specs.Rank.{IsRising};
 ghost use Rattle.m4_model.specs.Shapes.{cut, swaps};
@@ -11,10 +11,11 @@ ghost use Rattle.m4_mzed.specs.ESeen.{e_shown};
 ghost use Rattle.m4_perm.specs.Perm.{AreSwaps};
 ghost use Rattle.m4_trsm.specs.Triangles.{unit_upper};
 ghost use Rattle.m4_eple.specs.Halves.{IsBroughtUp};
-ghost use Rattle.m4_solve.specs.Factored.{IsFactored, IsBackSolved};
+ghost use Rattle.m4_solve.specs.Factored.{IsFactored, IsUnitSolved, IsBackSolved};
 
 use crate::first::are_first;
 use crate::gather::gathered;
+use crate::ones::make_ones;
 use m4_eple::{BY_ROWS, Base, Halving, bring_up, ple_by_halves};
 use m4_model::NoMemory;
 use m4_mzed::{EWin, EWinMut, Mzed};
@@ -44,6 +45,7 @@ impl Factored {
         ensures factored { IfOk result (IsFactored a) }
         ensures reach { M.limits with.new.engine ≡ M.limits with.old.engine }
         ensures still_for { M.IsFor with.new.engine a.field }
+        ensures base_still_for { B.IsFor with.new.base a.field }
         ensures cutoff { with.new.cutoff ≡ with.old.cutoff }
     {
         let (rows, cols) = (a.rows(), a.cols());
@@ -80,6 +82,7 @@ impl Factored {
         ensures shape { HasShape y.old.field y.old.rows y.old.cols y.new }
         ensures reach { M.limits with.new.engine ≡ M.limits with.old.engine }
         ensures still_for { M.IsFor with.new.engine y.old.field }
+        ensures base { with.new.base ≡ with.old.base }
         ensures cutoff { with.new.cutoff ≡ with.old.cutoff }
     {
         let _cols = self.matrix.cols();
@@ -98,40 +101,72 @@ impl Factored {
     }
 
     /// Solves with E's pivot columns: the first rows of right sides that were brought up, as many as the rank, become what
-    /// stands at the pivots in a solution. It takes memory for the pivot columns, where they aren't the first ones.
+    /// stands at the pivots in a solution. The matrix is not needed afterwards, and its rows are scaled. It takes memory for
+    /// the pivot columns, where they aren't the first ones.
     pub(crate) fn solve_pivots<M: EAddMul, B>(
-        &self,
+        &mut self,
         alloc: Global,
         y: &mut Mzed,
         with: &mut Halving<M, B>,
     ) -> Result<(), NoMemory>
-        requires rows { self.now.matrix.rows ≡ y.old.rows }
-        requires field { self.now.matrix.field ≡ y.old.field }
-        requires rank_rows { length self.now.pivots.items ≤ y.old.rows }
-        requires rank_cols { length self.now.pivots.items ≤ self.now.matrix.cols }
-        requires in_cols { (s : ℕ) → s < length self.now.pivots.items → slice_index self.now.pivots.items s < self.now.matrix.cols }
-        requires rising { IsRising self.now.pivots.items }
+        requires rows { self.old.matrix.rows ≡ y.old.rows }
+        requires field { self.old.matrix.field ≡ y.old.field }
+        requires rank_rows { length self.old.pivots.items ≤ y.old.rows }
+        requires rank_cols { length self.old.pivots.items ≤ self.old.matrix.cols }
+        requires in_cols { (s : ℕ) → s < length self.old.pivots.items → slice_index self.old.pivots.items s < self.old.matrix.cols }
+        requires some { (s : ℕ) → s < length self.old.pivots.items → at self.old.matrix s (slice_index self.old.pivots.items s) ≢ 0 }
+        requires rising { IsRising self.old.pivots.items }
         requires for_field { M.IsFor with.old.engine y.old.field }
-        requires reached { IsReached (M.limits with.old.engine) (length self.now.pivots.items) (length self.now.pivots.items) y.old.cols }
+        requires reached { IsReached (M.limits with.old.engine) (length self.old.pivots.items) (length self.old.pivots.items) y.old.cols }
         requires cutoff { 64 ≤ with.old.cutoff }
-        ensures solved { IfOk result (λ done. IsBackSolved self.now.matrix self.now.pivots.items y.old y.new) }
+        ensures solved { IfOk result (λ done. IsBackSolved self.old.matrix self.old.pivots.items y.old y.new) }
+        ensures pivots { self.new.pivots.items ≡ self.old.pivots.items }
         ensures reach { M.limits with.new.engine ≡ M.limits with.old.engine }
         ensures still_for { M.IsFor with.new.engine y.old.field }
+        ensures base { with.new.base ≡ with.old.base }
         ensures cutoff { with.new.cutoff ≡ with.old.cutoff }
     {
-        let _cols = self.matrix.cols();
-        let pivots = self.pivots.as_slice();
-        let rank = pivots.len() as u32;
-        let by_rows = with.cutoff.min(BY_ROWS);
-        if are_first(pivots, rank) {
-            let (first, _) = self.matrix.all().split_rows(rank);
-            solve_first_rows(&first.narrow(rank), y, &mut with.engine, by_rows);
-            return Ok(());
-        }
-        let g = gathered(alloc, &self.matrix.all(), pivots)?;
-        solve_first_rows(&g.all(), y, &mut with.engine, by_rows);
+        let (_rows, _rows_of_y) = (self.matrix.rows(), y.rows());
+        make_ones(&mut self.matrix, y, &self.pivots);
+        solve_unit_pivots(alloc, &self.matrix, &self.pivots, y, with)?;
         Ok(())
     }
+}
+
+/// Solves with the pivot columns of a matrix, where ones stand at the pivots.
+fn solve_unit_pivots<M: EAddMul, B>(
+    alloc: Global,
+    matrix: &Mzed,
+    pivots: &[u32],
+    y: &mut Mzed,
+    with: &mut Halving<M, B>,
+) -> Result<(), NoMemory>
+    requires rows { matrix.now.rows ≡ y.old.rows }
+    requires field { matrix.now.field ≡ y.old.field }
+    requires rank_rows { length pivots.now ≤ y.old.rows }
+    requires rank_cols { length pivots.now ≤ matrix.now.cols }
+    requires in_cols { (s : ℕ) → s < length pivots.now → slice_index pivots.now s < matrix.now.cols }
+    requires rising { IsRising pivots.now }
+    requires for_field { M.IsFor with.old.engine y.old.field }
+    requires reached { IsReached (M.limits with.old.engine) (length pivots.now) (length pivots.now) y.old.cols }
+    requires cutoff { 64 ≤ with.old.cutoff }
+    ensures solved { IfOk result (λ done. IsUnitSolved matrix.now pivots.now y.old y.new) }
+    ensures reach { M.limits with.new.engine ≡ M.limits with.old.engine }
+    ensures still_for { M.IsFor with.new.engine y.old.field }
+    ensures base { with.new.base ≡ with.old.base }
+    ensures cutoff { with.new.cutoff ≡ with.old.cutoff }
+{
+    let _cols = matrix.cols();
+    let rank = pivots.len() as u32;
+    let by_rows = with.cutoff.min(BY_ROWS);
+    if are_first(pivots, rank) {
+        let (first, _) = matrix.all().split_rows(rank);
+        solve_first_rows(&first.narrow(rank), y, &mut with.engine, by_rows);
+        return Ok(());
+    }
+    let g = gathered(alloc, &matrix.all(), pivots)?;
+    solve_first_rows(&g.all(), y, &mut with.engine, by_rows);
+    Ok(())
 }
 
 /// The first rows of `y`, as many as `t` has, become the X with U X those rows, where U is the upper triangle of `t` with ones

@@ -1,7 +1,8 @@
 use Rattle.std.proofs.Common.{◌≡◌, ℕ, refl, ◌∙◌, sym, subst, ap, arith, List, length}
-use Rattle.m4_model.specs.Field.{gf2}
 use Rattle.m4_model.specs.Matrix.{Matrix}
 use Rattle.m4_model.specs.Forms.{Reduced}
+use Rattle.m4_model.proofs.FieldLaws.{FieldLaws}
+use Rattle.m4_model.proofs.FieldProofs.{field_laws}
 use Rattle.m4_solve.specs.Reduction.{IsReducedAt}
 use Rattle.m4_solve.specs.Kernel.{AreOthers}
 use Rattle.m4_solve.proofs.Ranks.{pivots_seen, others_count}
@@ -29,9 +30,9 @@ returns-clause-kernel c A known =
     let R = c.args.form.now.matrix in
     let q = c.as_slice-pivots.result.now in
     let reduced : IsReducedAt R A q = pivots_seen _ _ _ _ _ c.as_slice-pivots.ensures.value refl known in
-    let over : A.field ≡ gf2 = sym reduced.form.shape.over ∙ c.cols.ensures.over_gf2 in
+    let laws : FieldLaws A.field = subst FieldLaws reduced.form.shape.over (field_laws R.field c.cols.ensures.matrix.over_field) in
     let others : AreOthers A.cols q c.in_ok-free.free.items = subst (λ (n : ℕ). AreOthers n q c.in_ok-free.free.items) (c.cols.ensures.cols ∙ reduced.form.shape.cols) c.in_ok-free.ensures in
-    kernel_read A R c.in_ok-basis.basis q c.deref.result.now over reduced (subst (AreOthers A.cols q) (sym c.deref.ensures.value) others) c.in_ok-basis.ensures
+    kernel_read A R c.in_ok-basis.basis q c.deref.result.now laws reduced (subst (AreOthers A.cols q) (sym c.deref.ensures.value) others) c.in_ok-basis.ensures
 
 pub returns-clause-rows : goal.returns-clause-rows
 returns-clause-rows c =

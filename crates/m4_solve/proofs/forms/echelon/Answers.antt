@@ -1,4 +1,5 @@
 use Rattle.std.proofs.Common.{arith, take, length-take}
+use Rattle.m4_model.proofs.FieldProofs.{field_laws}
 use Rattle.m4_solve.proofs.Ranks.{pivots_at}
 use Rattle.m4_solve.proofs.forms.echelon.Goals as goal
 
@@ -9,4 +10,4 @@ returns-clause-rank g c =
     let items = c.reduce.new.self.pivots.items in
     let front = length-take r items in
     let within = c.reduce.ensures.rank in
-    (take r items, pivots_at c.rows.ensures.over_gf2 reduced, omega (arith, front, within))
+    (take r items, pivots_at (field_laws c.args.a.now.field c.rows.ensures.matrix.over_field) reduced, omega (arith, front, within))
