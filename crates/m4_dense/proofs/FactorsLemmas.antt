@@ -1,35 +1,34 @@
 -- From the factors that a matrix holds in its own place to those that are made of it.
 use Rattle.std.proofs.Common.{◌≡◌, ℕ, List, length, sym, ap, ◌∙◌}
-use Rattle.m4_model.specs.Field.{gf2}
 use Rattle.m4_model.specs.Matrix.{Matrix, HasShape}
 use Rattle.m4_model.specs.Shapes.{swaps}
 use Rattle.m4_model.specs.Factors.{IsPle, Stored, IsPluq, StoredPluq}
-use Rattle.m4_mzd.specs.Window.{Window, content, showing}
+use Rattle.m4_mzed.specs.EWindow.{EWindow, content, showing}
 use Rattle.m4_ple.specs.Held.{HoldsPle, HoldsPluq}
 
 -- a window that held A was factored, and W is what it holds now
-module _ (A W : Matrix) (old new : Window) (first : content old ≡ A) (kept : new ≡ showing old (content new)) (last : W ≡ content new) where
-  over : gf2 ≡ A.field
-  over = ap (λ (M : Matrix). M.field) first
+module _ (A W : Matrix) (old new : EWindow) (first : content old ≡ A) (kept : new ≡ showing old (content new)) (last : W ≡ content new) where
+  over : W.field ≡ A.field
+  over = ap (λ (M : Matrix). M.field) last ∙ ap (λ (w : EWindow). w.field) kept ∙ ap (λ (M : Matrix). M.field) first
 
   high : W.rows ≡ A.rows
-  high = ap (λ (M : Matrix). M.rows) last ∙ ap (λ (w : Window). w.rows) kept ∙ ap (λ (M : Matrix). M.rows) first
+  high = ap (λ (M : Matrix). M.rows) last ∙ ap (λ (w : EWindow). w.rows) kept ∙ ap (λ (M : Matrix). M.rows) first
 
   wide : W.cols ≡ A.cols
-  wide = ap (λ (M : Matrix). M.cols) last ∙ ap (λ (w : Window). w.cols) kept ∙ ap (λ (M : Matrix). M.cols) first
+  wide = ap (λ (M : Matrix). M.cols) last ∙ ap (λ (w : EWindow). w.cols) kept ∙ ap (λ (M : Matrix). M.cols) first
 
   -- the shapes of the factors
-  square : (L : Matrix) → HasShape A.field A.rows A.rows L → HasShape gf2 W.rows W.rows L
+  square : (L : Matrix) → HasShape A.field A.rows A.rows L → HasShape W.field W.rows W.rows L
   square L has = rw (high, over) has
 
-  as_large : (E : Matrix) → HasShape A.field A.rows A.cols E → HasShape gf2 W.rows W.cols E
+  as_large : (E : Matrix) → HasShape A.field A.rows A.cols E → HasShape W.field W.rows W.cols E
   as_large E has = rw (high, wide, over) has
 
   -- the PLE: l and e are the only factors that W can hold
   pub ple_made : (height : ℕ) (exchanges q rows pivots : List ℕ) (l e : Matrix) → HoldsPle (content old) (swaps old.rows exchanges) q (content new)
       → rows ≡ swaps height exchanges → height ≡ W.rows → pivots ≡ q
-      → ((L E : Matrix) → HasShape gf2 W.rows W.rows L → HasShape gf2 W.rows W.cols E → Stored W q L E → l ≡ L)
-      → ((L E : Matrix) → HasShape gf2 W.rows W.rows L → HasShape gf2 W.rows W.cols E → Stored W q L E → e ≡ E) → IsPle A rows pivots (length pivots) l e
+      → ((L E : Matrix) → HasShape W.field W.rows W.rows L → HasShape W.field W.rows W.cols E → Stored W q L E → l ≡ L)
+      → ((L E : Matrix) → HasShape W.field W.rows W.rows L → HasShape W.field W.rows W.cols E → Stored W q L E → e ≡ E) → IsPle A rows pivots (length pivots) l e
   ple_made height exchanges q rows pivots l e holds ordered tall pivoted lower echelon =
       let held : HoldsPle A (swaps A.rows exchanges) q W = rw (sym first, last) holds in
       let l_shape = square held.l held.factors.l_shape in
@@ -41,8 +40,8 @@ module _ (A W : Matrix) (old new : Window) (first : content old ≡ A) (kept : n
   pub pluq_made : (height width : ℕ) (exchanges q rows columns : List ℕ) (r : ℕ) (l u : Matrix)
       → HoldsPluq (content old) (swaps old.rows exchanges) (swaps old.cols q) r (content new)
       → rows ≡ swaps height exchanges → height ≡ W.rows → columns ≡ swaps width q → width ≡ W.cols
-      → ((L U : Matrix) → HasShape gf2 W.rows W.rows L → HasShape gf2 W.rows W.cols U → StoredPluq W r L U → l ≡ L)
-      → ((L U : Matrix) → HasShape gf2 W.rows W.rows L → HasShape gf2 W.rows W.cols U → StoredPluq W r L U → u ≡ U) → IsPluq A rows columns r l u
+      → ((L U : Matrix) → HasShape W.field W.rows W.rows L → HasShape W.field W.rows W.cols U → StoredPluq W r L U → l ≡ L)
+      → ((L U : Matrix) → HasShape W.field W.rows W.rows L → HasShape W.field W.rows W.cols U → StoredPluq W r L U → u ≡ U) → IsPluq A rows columns r l u
   pluq_made height width exchanges q rows columns r l u holds ordered tall exchanged broad lower upper =
       let held : HoldsPluq A (swaps A.rows exchanges) (swaps A.cols q) r W = rw (sym first, last) holds in
       let l_shape = square held.l held.factors.l_shape in

@@ -1,5 +1,5 @@
 -- What is taken where nobody asks for something else.
-use Rattle.std.specs.Prelude.{◌≡◌, ℕ, Option, None, nat_le, ◌&&◌, if◌then◌else◌}
+use Rattle.std.specs.Prelude.{◌≡◌, ℕ, None, nat_le, ◌&&◌, if◌then◌else◌}
 use Rattle.m4_model.specs.declared.choices.Algo.{Algo}
 use Rattle.m4_model.specs.declared.choices.Algo.TheVariants.{Table, Strassen}
 use Rattle.m4_mzd.specs.declared.add_mul.Shape.{Shape}

@@ -1,18 +1,13 @@
 //! The engines that multiply over GF(2), made in one place for products and eliminations alike.
 
-ghost use Rattle.std.specs.Prelude.{◌≡◌, ◌≤◌, IfOk, unwrap_or};
+ghost use Rattle.std.specs.Prelude.{◌≡◌, ◌≤◌, IfOk};
 ghost use Rattle.m4_mzd.specs.Reach.{IsReached};
-ghost use Rattle.m4_solve.specs.Context.{Serves};
 ghost use Rattle.m4_dense.specs.Engine.{IsEngine, can_multiply, engine_limits};
 
-use crate::chosen::{Chosen, ELIMINATION_CUTOFF};
-use crate::how::How;
-use m4_eple::{ByWords, Halving};
+use crate::chosen::Chosen;
 use m4_model::{Algo, NoMemory};
 use m4_mul::{Plain, Table};
 use m4_mzd::{AddMul, MOST_SIDE, Shape, Win, WinMut};
-use m4_newton::OverBits;
-use m4_solve::Ctx;
 use m4_strassen::Strassen;
 use std::alloc::Global;
 
@@ -76,31 +71,4 @@ impl AddMul for Engine {
             Engine::Strassen(halves) => halves.addmul(c, a, b),
         }
     }
-}
-
-/// What an elimination of a matrix of so many rows and columns works with: the engine that is asked for, and the cutoff.
-pub(crate) fn context(
-    alloc: Global,
-    how: How,
-    rows: u32,
-    cols: u32,
-) -> Result<Ctx<Engine>, NoMemory>
-    requires few_rows { rows ≤ MOST_SIDE }
-    requires few_cols { cols ≤ MOST_SIDE }
-    ensures ready { IfOk result (λ ctx. can_multiply ctx.engine.engine) }
-    ensures serves { IfOk result (λ ctx. Serves (engine_limits ctx.engine.engine) ctx.cutoff rows cols) }
-    ensures cutoff { IfOk result (λ ctx. ctx.cutoff ≡ unwrap_or how.cutoff ELIMINATION_CUTOFF) }
-{
-    let shape = Shape {
-        m: rows,
-        l: rows.min(cols),
-        n: cols,
-    };
-    let chosen = Chosen::for_elimination(how, shape);
-    let engine = Engine::new(alloc, chosen, shape)?;
-    Ok(Halving {
-        engine: OverBits { engine },
-        base: ByWords::new(alloc, rows)?,
-        cutoff: chosen.cutoff,
-    })
 }

@@ -1,19 +1,23 @@
-//! The factors of a matrix over GF(2): PLE and PLUQ.
+//! The factors of a matrix over any field: PLE and PLUQ.
 
-ghost use Rattle.std.specs.Prelude.{◌≡◌, ◌≤◌, ◌^◌, IfOk, length};
-ghost use Rattle.m4_model.specs.Field.{gf2};
+ghost use Rattle.std.specs.Prelude.{◌≡◌, ◌*◌, ◌≤◌, IfOk, length};
+ghost use Rattle.m4_model.specs.Field.{width};
+ghost use Rattle.m4_field.specs.Fields.{the_field};
 ghost use Rattle.m4_solve.specs.Context.{Serves};
-ghost use Rattle.m4_dense.specs.Engine.{can_multiply, engine_limits};
+ghost use Rattle.m4_dense.specs.Elimination.{factors_over};
 ghost use Rattle.m4_dense.specs.Factors.{IsPleOf, IsPluqOf};
+ghost use Rattle.m4_dense.specs.FieldEngine.{multiplies_over, field_limits};
 
-use crate::engine::{Engine, context};
+use crate::elimination::{Elimination, elimination};
 use crate::how::How;
+use m4_eple::{Base, Halving, ple_by_halves};
+use m4_field::Field;
 use m4_model::NoMemory;
-use m4_mzd::{AddMul, MOST_SIDE, Mzd};
+use m4_mzd::MOST_SIDE;
 use m4_mzed::Mzed;
+use m4_newton::EAddMul;
 use m4_perm::Perm;
 use m4_ple::{ple_factors, pluq_factors};
-use m4_solve::Ctx;
 use std::alloc::Global;
 
 /// A PLE of a matrix: row `rows[i]` of the matrix is row `i` of the product of the factors.
@@ -52,72 +56,82 @@ struct Workspace {
     /// Room for the pivot columns, or for the exchanges of columns.
     pivots: Vec<u32>,
     /// A row as long as the matrix's.
-    row: Mzd,
-    context: Ctx<Engine>,
+    row: Mzed,
+    with: Elimination,
 }
 
 impl Workspace {
-    /// What the factors of a matrix of so many rows and columns are made in.
-    fn new(alloc: Global, how: How, rows: u32, cols: u32) -> Result<Workspace, NoMemory>
+    /// What the factors of a matrix of so many rows and columns over this field are made in.
+    fn new(
+        alloc: Global,
+        how: How,
+        field: Field,
+        rows: u32,
+        cols: u32,
+    ) -> Result<Workspace, NoMemory>
         requires few_rows { rows ≤ MOST_SIDE }
-        requires few_cols { cols ≤ MOST_SIDE }
+        requires few_bits { cols * width (the_field field) ≤ MOST_SIDE }
         ensures exchanges { IfOk result (λ space. length space.exchanges.items ≡ rows) }
         ensures pivots { IfOk result (λ space. length space.pivots.items ≡ rows) }
         ensures row { IfOk result (λ space. (space.row.rows ≡ 1) × (space.row.cols ≡ cols)) }
-        ensures ready { IfOk result (λ space. can_multiply space.context.engine.engine) }
-        ensures serves { IfOk result (λ space. Serves (engine_limits space.context.engine.engine) space.context.cutoff rows cols) }
+        ensures row_field { IfOk result (λ space. space.row.field ≡ the_field field) }
+        ensures for_field { IfOk result (λ space. multiplies_over space.with.engine (the_field field)) }
+        ensures base_for_field { IfOk result (λ space. factors_over space.with.base (the_field field)) }
+        ensures serves { IfOk result (λ space. Serves (field_limits space.with.engine) space.with.cutoff rows cols) }
     {
         Ok(Workspace {
             exchanges: vec![in alloc; 0u32; rows as usize]?,
             pivots: vec![in alloc; 0u32; rows as usize]?,
-            row: Mzd::zeros(alloc, 1, cols)?,
-            context: context(alloc, how, rows, cols)?,
+            row: Mzed::zeros(alloc, field, 1, cols)?,
+            with: elimination(alloc, how, field, rows, cols)?,
         })
     }
 }
 
-/// A PLE of an m x n matrix over GF(2): an order of its rows, an m x m matrix L with ones on its diagonal and zeros above
-/// it, and an m x n matrix E in row echelon form, whose pivots are the columns that aren't combinations of those before
-/// them.
+/// A PLE of an m x n matrix: an order of its rows, an m x m matrix L with ones on its diagonal and zeros above it, whose rows
+/// take at most 2^24 bits, and an m x n matrix E in row echelon form, whose pivots are the columns that aren't combinations of
+/// those before them.
 ///
 /// The elimination is made in the matrix's own place: Albrecht, Bard and Pernet, Efficient dense Gaussian elimination over
 /// the field with two elements, 2011. It takes memory for the factors and for a word and two numbers for each row, and for a row.
 pub fn ple(alloc: Global, how: How, a: Mzed) -> Result<PleFactors, NoMemory>
-    requires over_gf2 { a.field ≡ gf2 }
+    requires few_bits { a.rows * width a.field ≤ MOST_SIDE }
     ensures { IfOk result (IsPleOf a) }
 {
-    let bits = a.into_bits();
-    let mut space = Workspace::new(alloc, how, bits.rows(), bits.cols())?;
+    let mut space = Workspace::new(alloc, how, a.field(), a.rows(), a.cols())?;
     Ok(ple_in_room(
         alloc,
-        bits,
+        a,
         &mut space.exchanges,
         &mut space.pivots,
         &mut space.row,
-        &mut space.context,
+        &mut space.with,
     )?)
 }
 
 /// A PLE of a matrix, with room for its exchanges and pivots.
-fn ple_in_room<M: AddMul>(
+fn ple_in_room<M: EAddMul, B: Base>(
     alloc: Global,
-    a: Mzd,
+    a: Mzed,
     exchanges: &mut [u32],
     pivots: &mut [u32],
-    row: &mut Mzd,
-    context: &mut Ctx<M>,
+    row: &mut Mzed,
+    with: &mut Halving<M, B>,
 ) -> Result<PleFactors, NoMemory>
     requires exchanges { length exchanges.old ≡ a.rows }
     requires pivots { length pivots.old ≡ a.rows }
     requires row { (row.old.rows ≡ 1) × (row.old.cols ≡ a.cols) }
-    requires ready { M.ready context.old.engine.engine }
-    requires serves { Serves (M.limits context.old.engine.engine) context.old.cutoff a.rows a.cols }
+    requires row_field { row.old.field ≡ a.field }
+    requires few_bits { a.rows * width a.field ≤ MOST_SIDE }
+    requires for_field { M.IsFor with.old.engine a.field }
+    requires base_for_field { B.IsFor with.old.base a.field }
+    requires serves { Serves (M.limits with.old.engine) with.old.cutoff a.rows a.cols }
     ensures { IfOk result (IsPleOf a) }
 {
     let mut held = a;
     let (mut all, home) = held.all_mut();
     let (mut spare, spare_home) = row.all_mut();
-    let rank = m4_eple::ple(&mut all, exchanges, pivots, &mut spare, context);
+    let rank = ple_by_halves(&mut all, exchanges, pivots, &mut spare, with);
     held.put_all(all, home);
     row.put_all(spare, spare_home);
     let pivots = &pivots[..rank as usize];
@@ -125,54 +139,56 @@ fn ple_in_room<M: AddMul>(
     Ok(PleFactors {
         rows: Perm::from_swaps(alloc, held.rows(), exchanges)?,
         pivots: Vec::from_slice(alloc, pivots)?,
-        l: Mzed::of_bits(factors.l),
-        e: Mzed::of_bits(factors.e),
+        l: factors.l,
+        e: factors.e,
     })
 }
 
-/// A PLUQ of an m x n matrix over GF(2): an order of its rows and one of its columns, an m x m matrix L with ones on its
-/// diagonal and zeros above it, and an m x n matrix U with zeros below its diagonal, which isn't zero on the diagonal as
-/// far as the rank goes.
+/// A PLUQ of an m x n matrix: an order of its rows and one of its columns, an m x m matrix L with ones on its diagonal and
+/// zeros above it, whose rows take at most 2^24 bits, and an m x n matrix U with zeros below its diagonal, which isn't zero on
+/// the diagonal as far as the rank goes.
 ///
 /// The elimination is made in the matrix's own place, and the pivots' columns are brought to the front, as in the same
 /// paper. It takes memory for the factors, for a word and two numbers for each row, for a number
 /// for each column, and for a row.
 pub fn pluq(alloc: Global, how: How, a: Mzed) -> Result<PluqFactors, NoMemory>
-    requires over_gf2 { a.field ≡ gf2 }
+    requires few_bits { a.rows * width a.field ≤ MOST_SIDE }
     ensures { IfOk result (IsPluqOf a) }
 {
-    let bits = a.into_bits();
-    let mut space = Workspace::new(alloc, how, bits.rows(), bits.cols())?;
+    let mut space = Workspace::new(alloc, how, a.field(), a.rows(), a.cols())?;
     Ok(pluq_in_room(
         alloc,
-        bits,
+        a,
         &mut space.exchanges,
         &mut space.pivots,
         &mut space.row,
-        &mut space.context,
+        &mut space.with,
     )?)
 }
 
 /// A PLUQ of a matrix, with room for its exchanges of rows and of columns.
-fn pluq_in_room<M: AddMul>(
+fn pluq_in_room<M: EAddMul, B: Base>(
     alloc: Global,
-    a: Mzd,
+    a: Mzed,
     exchanges: &mut [u32],
     pivots: &mut [u32],
-    row: &mut Mzd,
-    context: &mut Ctx<M>,
+    row: &mut Mzed,
+    with: &mut Halving<M, B>,
 ) -> Result<PluqFactors, NoMemory>
     requires exchanges { length exchanges.old ≡ a.rows }
     requires pivots { length pivots.old ≡ a.rows }
     requires row { (row.old.rows ≡ 1) × (row.old.cols ≡ a.cols) }
-    requires ready { M.ready context.old.engine.engine }
-    requires serves { Serves (M.limits context.old.engine.engine) context.old.cutoff a.rows a.cols }
+    requires row_field { row.old.field ≡ a.field }
+    requires few_bits { a.rows * width a.field ≤ MOST_SIDE }
+    requires for_field { M.IsFor with.old.engine a.field }
+    requires base_for_field { B.IsFor with.old.base a.field }
+    requires serves { Serves (M.limits with.old.engine) with.old.cutoff a.rows a.cols }
     ensures { IfOk result (IsPluqOf a) }
 {
     let mut held = a;
     let (mut all, home) = held.all_mut();
     let (mut spare, spare_home) = row.all_mut();
-    let rank = m4_eple::pluq(&mut all, exchanges, pivots, &mut spare, context);
+    let rank = m4_eple::pluq(&mut all, exchanges, pivots, &mut spare, with);
     held.put_all(all, home);
     row.put_all(spare, spare_home);
     let factors = pluq_factors(alloc, &held.all(), rank)?;
@@ -180,7 +196,7 @@ fn pluq_in_room<M: AddMul>(
         rank,
         rows: Perm::from_swaps(alloc, held.rows(), exchanges)?,
         columns: Perm::from_swaps(alloc, held.cols(), &pivots[..rank as usize])?,
-        l: Mzed::of_bits(factors.l),
-        u: Mzed::of_bits(factors.e),
+        l: factors.l,
+        u: factors.e,
     })
 }

@@ -7,17 +7,18 @@
 //!
 //! The product of two matrices over one field, of shapes that fit, is `product(alloc, How::default(), &a, &b)?`.
 //!
-//! Sums, products, the transpose and the parts of matrices are there over every field. Eliminations, which are the rank,
-//! the reduced form, inverses, solutions, the kernel and the factors, are there over GF(2).
+//! All of it is there over every field: sums, products, the transpose and the parts of matrices, and the eliminations, which are
+//! the rank, the reduced form, inverses, solutions, the kernel and the factors.
 #![tactic(auto)]
 
 mod chosen;
+mod elimination;
 mod engine;
 mod equal;
 mod factors;
+mod field_engine;
 mod how;
 mod listed;
-mod pivots;
 mod products;
 mod shapes;
 mod systems;
@@ -32,7 +33,7 @@ pub use m4_mul::{MOST_K, MOST_TABLES};
 pub use m4_mzd::{MOST_SIDE, Mzd, Rect};
 pub use m4_mzed::Mzed;
 pub use m4_perm::Perm;
-pub use pivots::{PivotForm, pivot_form};
+pub use m4_solve::{ReducedForm, kernel_of};
 pub use products::{add_product, product};
 pub use shapes::{add_into, augment, rectangle, stack, sum, transpose};
-pub use systems::{inverse, kernel, rank, reduced_form, solution};
+pub use systems::{inverse, kernel, pivot_form, rank, reduced_form, solution};

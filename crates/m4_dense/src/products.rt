@@ -7,15 +7,15 @@ ghost use Rattle.m4_model.specs.Outcome.{HasRoom, with_product};
 ghost use Rattle.m4_model.specs.Shapes.{cut, replace};
 ghost use Rattle.m4_mzd.specs.Reach.{IsReached};
 ghost use Rattle.m4_mzd.specs.Rectangles.{IsInside};
-ghost use Rattle.m4_dense.specs.Engine.{can_multiply, engine_limits};
+ghost use Rattle.m4_dense.specs.FieldEngine.{multiplies_over, field_limits};
 
 use crate::chosen::Chosen;
-use crate::engine::Engine;
+use crate::field_engine::{FieldEngine, shape_in_bits};
 use crate::how::How;
-use m4_model::{Algo, NoMemory};
+use m4_model::NoMemory;
 use m4_mzd::{Rect, Shape};
 use m4_mzed::Mzed;
-use m4_newton::{EAddMul, EPlain, MOST_STRIP, Newton, OverBits};
+use m4_newton::EAddMul;
 use std::alloc::Global;
 
 /// The product of an m x l matrix `a` and an l x n matrix `b` over the same field: an m x n matrix.
@@ -35,51 +35,23 @@ pub fn product(alloc: Global, how: How, a: &Mzed, b: &Mzed) -> Result<Mzed, NoMe
 {
     let _rows = a.rows();
     let _rows_of_b = b.rows();
-    if a.field().e() == 1 {
-        let engine = product_engine(alloc, how, a, b)?;
-        product_by(alloc, &mut OverBits { engine }, a, b)
-    } else if is_plain(how) {
-        product_by(alloc, &mut EPlain, a, b)
-    } else {
-        let mut newton = product_newton(alloc, how, a, b)?;
-        product_by(alloc, &mut newton, a, b)
-    }
+    let mut engine = product_engine(alloc, how, a, b)?;
+    product_by(alloc, &mut engine, a, b)
 }
 
-/// The engine that is asked for, for the product of these matrices of bits.
-fn product_engine(alloc: Global, how: How, a: &Mzed, b: &Mzed) -> Result<Engine, NoMemory>
-    ensures ready { IfOk result can_multiply }
-    ensures reached { IfOk result (λ engine. IsReached (engine_limits engine) a.now.rows a.now.cols b.now.cols) }
+/// The engine that is asked for, for the product of these matrices.
+fn product_engine(alloc: Global, how: How, a: &Mzed, b: &Mzed) -> Result<FieldEngine, NoMemory>
+    ensures for_field { IfOk result (λ engine. multiplies_over engine b.now.field) }
+    ensures reached { IfOk result (λ engine. IsReached (field_limits engine) a.now.rows a.now.cols b.now.cols) }
 {
     let shape = Shape {
         m: a.rows(),
         l: a.cols(),
         n: b.cols(),
     };
-    Engine::new(alloc, Chosen::for_product(how, shape), shape)
-}
-
-/// Whether products are asked for row by row.
-fn is_plain(how: How) -> bool {
-    how.algo == Some(Algo::Plain)
-}
-
-/// The engine over the field of these matrices, over the engine for bits that is asked for, for their product.
-fn product_newton(alloc: Global, how: How, a: &Mzed, b: &Mzed) -> Result<Newton<Engine>, NoMemory>
-    ensures field { IfOk result (λ newton. newton.field ≡ b.now.field) }
-    ensures rows { IfOk result (λ newton. a.now.rows ≤ newton.bits.m) }
-    ensures cols { IfOk result (λ newton. newton.cols ≡ b.now.cols) }
-{
-    let _rows = a.rows();
     let field = b.field();
-    let shape = Shape {
-        m: a.rows(),
-        l: MOST_STRIP,
-        n: b.cols() * field.width(),
-    };
-    let engine = Engine::new(alloc, Chosen::for_product(how, shape), shape)?;
-    let newton = Newton::new(alloc, field, b.cols(), engine)?;
-    Ok(newton)
+    let chosen = Chosen::for_product(how, shape_in_bits(field, shape));
+    FieldEngine::new(alloc, chosen, field, shape)
 }
 
 /// The product of two matrices by an engine.
@@ -130,15 +102,8 @@ pub fn add_product(
         r1: row + a.rows(),
         c1: col + b.cols(),
     };
-    if c.field().e() == 1 {
-        let engine = product_engine(alloc, how, a, b)?;
-        add_product_by(&mut OverBits { engine }, c, rect, a, b);
-    } else if is_plain(how) {
-        add_product_by(&mut EPlain, c, rect, a, b);
-    } else {
-        let mut newton = product_newton(alloc, how, a, b)?;
-        add_product_by(&mut newton, c, rect, a, b);
-    }
+    let mut engine = product_engine(alloc, how, a, b)?;
+    add_product_by(&mut engine, c, rect, a, b);
     Ok(())
 }
 

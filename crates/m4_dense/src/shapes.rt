@@ -40,7 +40,7 @@ pub fn add_into(a: &mut Mzed, b: &Mzed)
 /// the transpose.
 ///
 /// Over GF(2) the matrix is halved until its parts suit each cache, and turned there in blocks of 64 x 64 bits; over other
-/// fields it is turned entry by entry.
+/// fields it is turned in square blocks that have one word a row.
 pub fn transpose(alloc: Global, a: &Mzed) -> Result<Mzed, NoMemory>
     requires few_bits { a.now.rows * width a.now.field ≤ MOST_SIDE }
     ensures { IfOk result (λ m. m ≡ transposed a.now) }
