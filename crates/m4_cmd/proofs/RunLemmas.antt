@@ -131,7 +131,7 @@ module _ (told : Option Stock) (asked : Job) (change : Change) where
             asked = asked;
             matrices = large.matrices;
             operands = record { understood = understood; accepted = large.read files tells };
-            served = large.passes.served;
+            shared = large.passes.shared;
             fits = large.passes.fits;
             large = large.passes.large;
           })

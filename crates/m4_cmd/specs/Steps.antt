@@ -6,7 +6,7 @@ use Rattle.m4_model.specs.Matrix.{Matrix}
 use Rattle.m4_model.specs.Headed.{Fault, PastLimit}
 use Rattle.m4_model.specs.FormTexts.{ReadsAs, RefusalAs}
 use Rattle.m4_model.specs.Words.{Job, job, form_of_files, form_of_answer}
-use Rattle.m4_model.specs.Outcome.{Stock, bytes_of, Accepted, FirstRefused, FirstMissing, AreServed, Fits, InBounds, Answer, HasAnswer, IsFaultAt, status_of, can_hold_answer, text_of_answer}
+use Rattle.m4_model.specs.Outcome.{Stock, bytes_of, Accepted, FirstRefused, FirstMissing, ShareField, Fits, InBounds, Answer, HasAnswer, IsFaultAt, status_of, can_hold_answer, text_of_answer}
 use Rattle.m4_model.specs.declared.choices.Form.{Form}
 use Rattle.m4_model.specs.declared.command.Command.{Command}
 use Rattle.m4_model.specs.declared.status.Status.{Status}
@@ -71,13 +71,13 @@ operand_status operand_faults.NoMemory = Memory
 
 -- The operands' fields and shapes fit, and the shape of the command's answer passes a limit.
 pub record PassesBounds (command : Command) (Ms : List Matrix) : Type 0 where
-  pub served : AreServed command Ms
+  pub shared : ShareField Ms
   pub fits : Fits command Ms
   pub large : InBounds command Ms → ⊥
 
 -- Why the command has no answer to these operands.
 abbrev pub AnswerFails : Command → List Matrix → AnswerFault → Type 0
-AnswerFails command Ms answer_faults.Shape = AreServed command Ms → Fits command Ms → ⊥
+AnswerFails command Ms answer_faults.Shape = ShareField Ms → Fits command Ms → ⊥
 AnswerFails command Ms answer_faults.Limit = PassesBounds command Ms
 AnswerFails command Ms answer_faults.NoMemory = Unit {0}
 
@@ -154,7 +154,7 @@ pub record IsUnheldJob (told : Option Stock) (asked : Job) : Type 0 where
 pub record IsMisfitJob (told : Option Stock) (asked : Job) : Type 0 where
   pub matrices : List Matrix
   pub read : AreReadAs told (form_of_files asked.choices) asked.files matrices
-  pub misfit : AreServed asked.command matrices → Fits asked.command matrices → ⊥
+  pub misfit : ShareField matrices → Fits asked.command matrices → ⊥
 
 -- The job's operands are accepted and fit, and the answer's shape passes a limit.
 pub record IsTooLargeJob (told : Option Stock) (asked : Job) : Type 0 where

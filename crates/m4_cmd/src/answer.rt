@@ -7,7 +7,7 @@ ghost use Rattle.m4_cmd.specs.Steps.{AnswerFails, answer_status};
 
 use crate::bounds::in_known_bounds;
 use crate::compute::compute;
-use crate::fits::{fits, is_served};
+use crate::fits::{fits, share_field};
 use m4_dense::{How, Mzed, PleFactors, PluqFactors};
 use m4_model::{Command, NoMemory, Status};
 use std::alloc::Global;
@@ -75,8 +75,8 @@ impl From<NoMemory> for AnswerFault {
     }
 }
 
-/// The answer of a command to these operands: where they are over one field that has the command, their shapes fit, and the answer's
-/// is within the limits. The first operand is taken.
+/// The answer of a command to these operands: where they are over one field, their shapes fit, and the answer's is within the
+/// limits. The first operand is taken.
 pub(crate) fn answer_of(
     alloc: Global,
     command: Command,
@@ -86,7 +86,7 @@ pub(crate) fn answer_of(
     ensures good { IfOk result (λ answer. HasAnswer command operands.old (answer_told answer)) }
     ensures fails { IfErr result (AnswerFails command operands.old) }
 {
-    if !is_served(command, operands) || !fits(command, operands) {
+    if !share_field(operands) || !fits(command, operands) {
         return Err(AnswerFault::Shape);
     }
     if !in_known_bounds(command, operands) {

@@ -1,7 +1,7 @@
 //! The answer of a command to operands that fit it.
 
 ghost use Rattle.std.specs.Prelude.{◌≡◌, IfOk, IfErr, [], ◌∷◌};
-ghost use Rattle.m4_model.specs.Outcome.{AreServed, Fits, InKnownBounds, HasAnswer};
+ghost use Rattle.m4_model.specs.Outcome.{Fits, InKnownBounds, HasAnswer, ShareField};
 ghost use Rattle.m4_cmd.specs.Answer.{answer_told};
 ghost use Rattle.m4_cmd.specs.Steps.{AnswerFails};
 
@@ -15,15 +15,15 @@ use m4_model::Command;
 use std::alloc::Global;
 use std::mem;
 
-/// The answer of a command to operands over a field that has it, whose shapes fit it, and for which the answer's shape, where these
-/// tell it, is within the limits. The first operand is taken.
+/// The answer of a command to operands over one field, whose shapes fit it, and for which the answer's shape, where these tell
+/// it, is within the limits. The first operand is taken.
 pub(crate) fn compute(
     alloc: Global,
     command: Command,
     how: How,
     operands: &mut [Mzed],
 ) -> Result<Answer, AnswerFault>
-    requires served { AreServed command operands.old }
+    requires shared { ShareField operands.old }
     requires fits { Fits command operands.old }
     requires bounds { InKnownBounds command operands.old }
     ensures good { IfOk result (λ answer. HasAnswer command operands.old (answer_told answer)) }
@@ -43,7 +43,7 @@ fn of_some(
     first: &mut Mzed,
     others: &[Mzed],
 ) -> Result<Answer, AnswerFault>
-    requires served { AreServed command (first.old ∷ others.now) }
+    requires shared { ShareField (first.old ∷ others.now) }
     requires fits { Fits command (first.old ∷ others.now) }
     requires bounds { InKnownBounds command (first.old ∷ others.now) }
     ensures good { IfOk result (λ answer. HasAnswer command (first.old ∷ others.now) (answer_told answer)) }
@@ -69,7 +69,6 @@ fn taken(alloc: Global, matrix: &mut Mzed) -> Mzed
 
 /// The answer of a command to one operand, which is taken.
 fn of_one(alloc: Global, command: Command, how: How, a: &mut Mzed) -> Result<Answer, AnswerFault>
-    requires served { AreServed command (a.old ∷ []) }
     requires fits { Fits command (a.old ∷ []) }
     requires bounds { InKnownBounds command (a.old ∷ []) }
     ensures good { IfOk result (λ answer. HasAnswer command (a.old ∷ []) (answer_told answer)) }
@@ -111,7 +110,7 @@ fn of_two(
     a: &mut Mzed,
     b: &Mzed,
 ) -> Result<Answer, AnswerFault>
-    requires served { AreServed command (a.old ∷ b.now ∷ []) }
+    requires shared { ShareField (a.old ∷ b.now ∷ []) }
     requires fits { Fits command (a.old ∷ b.now ∷ []) }
     requires bounds { InKnownBounds command (a.old ∷ b.now ∷ []) }
     ensures good { IfOk result (λ answer. HasAnswer command (a.old ∷ b.now ∷ []) (answer_told answer)) }

@@ -1,29 +1,14 @@
 //! Whether the operands' fields and shapes fit a command.
 
 ghost use Rattle.std.specs.Prelude.{◌≡◌, ◌↔◌, IsTrue};
-ghost use Rattle.m4_model.specs.Outcome.{AreOver, AreServed, Fits, HasRectangle, HasRoom, ShareField};
+ghost use Rattle.m4_model.specs.Outcome.{AreOver, Fits, HasRectangle, HasRoom, ShareField};
 ghost use Rattle.m4_field.specs.Fields.{the_field};
 
 use m4_dense::{Field, Mzed};
 use m4_model::Command;
 
-/// Whether the operands are over one field, which has the command.
-pub(crate) fn is_served(command: Command, operands: &[Mzed]) -> bool
-    ensures { IsTrue result ↔ AreServed command operands.now }
-{
-    match command {
-        Command::Mul | Command::Addmul { .. } | Command::Add => share_field(operands),
-        Command::Transpose | Command::Stack | Command::Augment => share_field(operands),
-        Command::Sub { .. } | Command::Convert => share_field(operands),
-        Command::Rank | Command::Echelon => are_over(Field::gf2(), operands),
-        Command::Inverse | Command::Solve => are_over(Field::gf2(), operands),
-        Command::Kernel => are_over(Field::gf2(), operands),
-        Command::Ple | Command::Pluq => are_over(Field::gf2(), operands),
-    }
-}
-
 /// Whether the matrices are over one field.
-fn share_field(matrices: &[Mzed]) -> bool
+pub(crate) fn share_field(matrices: &[Mzed]) -> bool
     ensures { IsTrue result ↔ ShareField matrices.now }
 {
     match matrices.split_first() {

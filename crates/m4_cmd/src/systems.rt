@@ -2,8 +2,7 @@
 //! `solve` and `kernel`.
 
 ghost use Rattle.std.specs.Prelude.{◌≡◌, IfOk, IfErr, [], ◌∷◌};
-ghost use Rattle.m4_model.specs.Field.{gf2};
-ghost use Rattle.m4_model.specs.Outcome.{AreServed, HasAnswer, IsAnswer};
+ghost use Rattle.m4_model.specs.Outcome.{HasAnswer, IsAnswer};
 ghost use Rattle.m4_model.specs.Text.{IsWithinLimits};
 ghost use Rattle.m4_model.specs.declared.command.Command.TheVariants.{Inverse, Solve, Kernel};
 ghost use Rattle.m4_cmd.specs.Answer.{answer_told};
@@ -11,12 +10,11 @@ ghost use Rattle.m4_cmd.specs.Steps.{AnswerFails};
 
 use crate::answer::{Answer, AnswerFault};
 use crate::bounds::is_within_limits;
-use m4_dense::{How, Mzed, NoMemory, inverse, pivot_form, solution};
+use m4_dense::{How, Mzed, NoMemory, inverse, kernel_of, pivot_form, solution};
 use std::alloc::Global;
 
 /// The inverse of a square matrix, or that there is none.
 pub(crate) fn inverse_of(alloc: Global, how: How, a: &Mzed) -> Result<Answer, NoMemory>
-    requires over_gf2 { a.now.field ≡ gf2 }
     requires square { a.now.cols ≡ a.now.rows }
     ensures is { IfOk result (λ answer. IsAnswer Inverse (a.now ∷ []) (answer_told answer)) }
 {
@@ -28,8 +26,7 @@ pub(crate) fn inverse_of(alloc: Global, how: How, a: &Mzed) -> Result<Answer, No
 
 /// The solution X of A X = B, or that there is none.
 pub(crate) fn solution_of(alloc: Global, how: How, a: &Mzed, b: &Mzed) -> Result<Answer, NoMemory>
-    requires first { a.now.field ≡ gf2 }
-    requires second { b.now.field ≡ gf2 }
+    requires same_field { b.now.field ≡ a.now.field }
     requires rows { a.now.rows ≡ b.now.rows }
     ensures is { IfOk result (λ answer. IsAnswer Solve (a.now ∷ b.now ∷ []) (answer_told answer)) }
 {
@@ -42,7 +39,6 @@ pub(crate) fn solution_of(alloc: Global, how: How, a: &Mzed, b: &Mzed) -> Result
 /// The basis of the kernel of a matrix. Its limit is looked at before it is made: it has a row for each column that the rank
 /// leaves.
 pub(crate) fn basis_of(alloc: Global, how: How, a: &Mzed) -> Result<Answer, AnswerFault>
-    requires { AreServed Kernel (a.now ∷ []) }
     ensures good { IfOk result (λ answer. HasAnswer Kernel (a.now ∷ []) (answer_told answer)) }
     ensures fails { IfErr result (AnswerFails Kernel (a.now ∷ [])) }
 {
@@ -51,5 +47,5 @@ pub(crate) fn basis_of(alloc: Global, how: How, a: &Mzed) -> Result<Answer, Answ
     if !is_within_limits(a, cols - form.pivots.len() as u32, cols) {
         return Err(AnswerFault::Limit);
     }
-    Ok(Answer::Matrix(form.into_kernel(alloc)?))
+    Ok(Answer::Matrix(kernel_of(alloc, &form)?))
 }

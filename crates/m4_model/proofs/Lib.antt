@@ -32,4 +32,4 @@ mod ExampleTests
 mod ExamplesForms
 mod TextExamples
 mod HeadedExamples
-mod ServedExamples
+mod SharedExamples

@@ -1,6 +1,6 @@
 -- What a run of the program has to answer: its status and its text, from its words and the files at hand.
 use Rattle.std.specs.Prelude.{◌≡◌, ℕ, ◌+◌, ◌-◌, ◌*◌, ◌%◌, ◌≤◌, ◌⊎◌, List, [], ◌∷◌, ◌++◌, length, All, Option, Some, None, option_map, flat_map, find, bytes_eq, Ok, Err, codes, decimal}
-use Rattle.m4_model.specs.Field.{Field, gf2, width}
+use Rattle.m4_model.specs.Field.{Field, width}
 use Rattle.m4_model.specs.Matrix.{Matrix, added, product}
 use Rattle.m4_model.specs.Shapes.{transposed, above, beside, LiesInside, cut, replace}
 use Rattle.m4_model.specs.Rank.{IsRank}
@@ -72,17 +72,6 @@ AreOver F matrices = All (λ A. A.field ≡ F) matrices
 abbrev pub ShareField : List Matrix → Type 0
 ShareField [] = Unit {0}
 ShareField (A ∷ matrices) = AreOver A.field matrices
-
--- The operands are over one field, which has the command: extension fields don't have eliminations yet.
-abbrev pub AreServed : Command → List Matrix → Type 0
-AreServed Rank matrices = AreOver gf2 matrices
-AreServed Echelon matrices = AreOver gf2 matrices
-AreServed Inverse matrices = AreOver gf2 matrices
-AreServed Solve matrices = AreOver gf2 matrices
-AreServed Kernel matrices = AreOver gf2 matrices
-AreServed Ple matrices = AreOver gf2 matrices
-AreServed Pluq matrices = AreOver gf2 matrices
-AreServed command matrices = ShareField matrices
 
 -- The operands' shapes fit the command.
 abbrev pub Fits : Command → List Matrix → Type 0
@@ -223,9 +212,9 @@ text_of_answer form (OneMatrix R) = text_as form R
 text_of_answer form (Lines lines) = lines
 text_of_answer form (NoAnswer line) = line
 
--- The command is there for the operands' fields, their shapes fit, the answer's shape is within the limits, and this is the answer.
+-- The operands are over one field, their shapes fit, the answer's shape is within the limits, and this is the answer.
 pub record HasAnswer (command : Command) (matrices : List Matrix) (answer : Answer) : Type 0 where
-  pub served : AreServed command matrices
+  pub shared : ShareField matrices
   pub fits : Fits command matrices
   pub bounds : InBounds command matrices
   pub is : IsAnswer command matrices answer
@@ -247,19 +236,19 @@ pub record MissingOperand (words : List (List ℕ)) (stock : Stock) : Type 0 whe
   pub understood : job words ≡ Ok asked
   pub missing : FirstMissing stock (form_of_files asked.choices) asked.files
 
--- The command isn't there for the operands' fields, or the shapes don't fit.
+-- The operands aren't over one field, or their shapes don't fit.
 pub record IsMisfit (words : List (List ℕ)) (stock : Stock) : Type 0 where
   pub asked : Job
   pub matrices : List Matrix
   pub operands : Operands words stock asked matrices
-  pub misfit : AreServed asked.command matrices → Fits asked.command matrices → ⊥
+  pub misfit : ShareField matrices → Fits asked.command matrices → ⊥
 
 -- The fields and shapes fit, and that of the answer passes a limit.
 pub record IsTooLarge (words : List (List ℕ)) (stock : Stock) : Type 0 where
   pub asked : Job
   pub matrices : List Matrix
   pub operands : Operands words stock asked matrices
-  pub served : AreServed asked.command matrices
+  pub shared : ShareField matrices
   pub fits : Fits asked.command matrices
   pub large : InBounds asked.command matrices → ⊥
 
