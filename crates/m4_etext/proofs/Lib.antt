@@ -9,6 +9,9 @@ pub mod Rows
 pub mod Pieces
 pub mod BitRows
 pub mod ElementRows
+pub mod ElementWords
+pub mod GatheredWords
+pub mod TakenWords
 pub mod HeadLemmas
 pub mod Versions
 pub mod Readers

@@ -1,19 +1,19 @@
 -- A headed text is read as one matrix.
-use Rattle.std.proofs.Common.{◌≡◌, ℕ, zero, suc, ◌+◌, ◌-◌, ◌*◌, ◌/◌, ◌%◌, ◌^◌, ◌<◌, ◌≤◌, false, List, [], ◌∷◌, ◌++◌, flat_map, map, length, get_or, refl, sym, ◌∙◌, ap, ap₂, subst, subst₂, arith, inl, inr, length-append}
+use Rattle.std.proofs.Common.{◌≡◌, ℕ, zero, suc, ◌+◌, ◌-◌, ◌*◌, ◌/◌, ◌%◌, ◌^◌, ◌<◌, ◌≤◌, false, List, [], ◌∷◌, ◌++◌, flat_map, length, get_or, refl, sym, ◌∙◌, ap, ap₂, subst, arith, length-append}
 use Rattle.std.specs.Fmt.{digit_glyph}
 use Rattle.std.proofs.Math.Nat.{div-div-eq-div-mul}
 use Rattle.std.proofs.Math.Pow.{pow_mono}
 use Rattle.std.proofs.lemmas.Grind.{same_number_lists}
-use Rattle.std.proofs.lemmas.List.{append_cancel_left, append_cancel_right, get_or-map, length-map}
-use Rattle.m4_model.specs.Field.{Field, width, IsField, IsExtension}
-use Rattle.m4_model.specs.Matrix.{Matrix, IsMatrix}
+use Rattle.std.proofs.lemmas.List.{append_cancel_left, append_cancel_right, get_or-map}
+use Rattle.m4_model.specs.Field.{Field, IsExtension}
+use Rattle.m4_model.specs.Matrix.{Matrix}
 use Rattle.m4_model.proofs.MatrixLemmas.{same_parts as same_matrices}
 use Rattle.m4_model.specs.Headed.{Spelling, Bits, Fours, Elements, HasField, Reads, field_of, header, line, row_digits, element_digits, digit_of_four, digits_per_element}
 use Rattle.m4_etext.specs.Pieces.{digits_in, IsRow, glyphs}
 use Rattle.m4_etext.proofs.BitRows.{pow_four}
 use Rattle.m4_etext.proofs.Fronts.{IsPrefixFree-same_length, same_parts}
 use Rattle.m4_etext.proofs.Numerals.{glyph_injective}
-use Rattle.m4_etext.proofs.Once.{IsOwn, own_text, same_sizes}
+use Rattle.m4_etext.proofs.Once.{own_text, same_sizes}
 use Rattle.m4_etext.proofs.Pieces.{length-glyphs}
 use Rattle.m4_etext.proofs.RowDigits.{get_or-flat, length-element_digits, get_or-element_digits, length-row_digits, get_or-fours, bit_or_none, may_stand}
 use Rattle.m4_etext.proofs.Rows.{row_is}

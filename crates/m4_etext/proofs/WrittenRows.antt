@@ -1,23 +1,21 @@
 -- The digits of rows, written group by group.
-use Rattle.std.proofs.Common.{◌≡◌, ℕ, ◌+◌, ◌-◌, ◌*◌, ◌/◌, ◌%◌, ◌^◌, ◌<◌, ◌≤◌, false, min, List, map, length, get_or, take, drop, sym, ◌∙◌, ap, ap₂, arith, length-take, length-drop, get_or-take, get_or-drop, ext_get_or}
+use Rattle.std.proofs.Common.{◌≡◌, ℕ, ◌+◌, ◌-◌, ◌*◌, ◌/◌, ◌%◌, ◌^◌, ◌<◌, false, min, List, length, get_or, take, drop, sym, ◌∙◌, ap, arith, length-take, length-drop, get_or-take, get_or-drop, ext_get_or}
 use Rattle.std.specs.Int.{bit_at}
 use Rattle.std.specs.Fmt.{digit_glyph}
 use Rattle.std.proofs.lemmas.Nat.Bits.{bit_at-lt}
-use Rattle.std.proofs.lemmas.List.{length-map, get_or-map}
+use Rattle.std.proofs.lemmas.List.{get_or-map}
 use Rattle.std.proofs.lemmas.List.FromFn.{length-map-range_with_len, get_or-map-range_with_len}
-use Rattle.std.proofs.Math.Nat.{mul-le-mul_right}
-use Rattle.m4_model.specs.Field.{Field}
-use Rattle.m4_model.specs.Headed.{Bits, Fours, Elements, row_digits, element_digits, digits_per_element}
+use Rattle.m4_model.specs.Headed.{Bits, Fours, row_digits}
 use Rattle.m4_bits.specs.Digits.{digits_of}
 use Rattle.m4_etext.specs.Pieces.{digits_in, glyphs}
-use Rattle.m4_etext.specs.Digits.{fours_of, digits_down}
+use Rattle.m4_etext.specs.Digits.{fours_of}
 use Rattle.m4_etext.proofs.Numerals.{glyph_low}
-use Rattle.m4_etext.proofs.RowDigits.{length-row_digits, get_or-fours, get_or-flat, length-element_digits}
+use Rattle.m4_etext.proofs.RowDigits.{length-row_digits, get_or-fours}
 use Rattle.m4_etext.proofs.Pieces.{length-glyphs}
 use Rattle.m4_etext.proofs.BitRows.{four_of_bits}
 
 -- a group of a list
-group_is : (xs piece : List ℕ) (size k count : ℕ) → length piece ≡ count → count ≡ min (length xs - size * k) size
+pub group_is : (xs piece : List ℕ) (size k count : ℕ) → length piece ≡ count → count ≡ min (length xs - size * k) size
     → ((i : ℕ) → i < count → get_or xs (size * k + i) 0 ≡ get_or piece i 0) → take size (drop (size * k) xs) ≡ piece
 group_is xs piece size k count long many same =
     let cut = length-take size (drop (size * k) xs) in
@@ -52,22 +50,3 @@ fours_group n entries w word count wide inside many bits =
     get_or-map (digit_glyph false) (row_digits Fours entries) (16 * w + i) 0 0 (omega (arith, within, d, d'))
     ∙ ap (digit_glyph false) (get_or-fours entries (16 * w + i) (omega (arith, within, d')) ∙ four_of_bits entries w i word (omega (arith, below, many)) bits)
     ∙ sym (get_or-map-range_with_len f 0 count i i 0 below (omega arith)))
-
--- the digits of an element
-pub element_group : (F : Field) (n : ℕ) (entries : List ℕ) (c count x : ℕ) → length entries ≡ n → c < n → count ≡ digits_per_element F → x ≡ get_or entries c 0
-    → take (digits_per_element F) (drop (digits_per_element F * c) (glyphs (Elements F) entries)) ≡ digits_down x count
-element_group F n entries c count x wide inside is value =
-    let k = digits_per_element F in
-    let long : length (glyphs (Elements F) entries) ≡ n * k = length-glyphs (Elements F) n entries wide in
-    let swapped : k * c ≡ c * k = grind arith in
-    let room : c * k + k ≤ n * k = (let l : (c + 1) * k ≤ n * k = mul-le-mul_right k (omega (arith, inside)) in let e : (c + 1) * k ≡ c * k + k = omega arith in omega (arith, l, e)) in
-    let g = length-map (element_digits F (get_or entries c 0)) (digit_glyph false) in
-    let e = length-element_digits F (get_or entries c 0) in
-    group_is (glyphs (Elements F) entries) (map (digit_glyph false) (element_digits F (get_or entries c 0))) k c k (omega (arith, g, e)) (omega (arith, long, swapped, room)) (λ i below.
-    let d = length-row_digits (Elements F) entries in
-    let d' : digits_in (Elements F) (length entries) ≡ n * k = ap (λ n. n * k) wide in
-    let place : k * c + i ≡ c * k + i = omega (arith, swapped) in
-    get_or-map (digit_glyph false) (row_digits (Elements F) entries) (k * c + i) 0 0 (omega (arith, d, d', room, swapped, below))
-    ∙ ap (digit_glyph false) (ap (λ p. get_or (row_digits (Elements F) entries) p 0) place ∙ get_or-flat (element_digits F) k (length-element_digits F) entries c i (omega (arith, wide, inside)) below)
-    ∙ sym (get_or-map (digit_glyph false) (element_digits F (get_or entries c 0)) i 0 0 (omega (arith, below, e))))
-    ∙ sym (ap₂ digits_down value is)

@@ -7,4 +7,5 @@ pub mod Standing
 pub mod Reading
 pub mod Pending
 pub mod Digits
+pub mod ElementWords
 pub mod FormReading

@@ -1,9 +1,9 @@
 //! Hexadecimal digits, to be written.
 
-ghost use Rattle.std.specs.Prelude.{◌≡◌, ◌+◌, ◌^◌, ◌<◌, ◌≤◌, ℕ, false, length, take, drop};
+ghost use Rattle.std.specs.Prelude.{◌≡◌, ◌*◌, ◌/◌, ◌<◌, ◌≤◌, ◌==◌, ◌||◌, ℕ, false, length, drop, IsTrue};
 ghost use Rattle.std.specs.Fmt.{digit_glyph};
 ghost use Rattle.m4_model.specs.Headed.{hexadecimal};
-ghost use Rattle.m4_etext.specs.Digits.{fours_of, digits_down};
+ghost use Rattle.m4_etext.specs.Digits.{fours_of, digit_of_elements, elements_of};
 
 /// The digit of this value, 0 to 9 or a to f.
 #[inline]
@@ -18,6 +18,15 @@ fn hex_digit(value: u8) -> u8
     }
 }
 
+/// The same in 32 bits, where the choice between the two sums is no branch.
+#[inline]
+pub fn hex_code(value: u32) -> u32
+    requires { value < 16 }
+    ensures { result ≡ digit_glyph false value }
+{
+    if value < 10 { 48 + value } else { 87 + value }
+}
+
 /// Writes the word's bits four at a time as digits, the lowest first: as many as there is room, at most 16.
 #[inline]
 pub fn put_fours(word: u64, digits: &mut [u8])
@@ -29,28 +38,50 @@ pub fn put_fours(word: u64, digits: &mut [u8])
     }
 }
 
-/// The lowest `count` digits of a number of at most 16 bits, the highest first, and zeros behind them.
+/// Writes the elements of the word, of `width` bits each, by `count` digits each, the highest first: as many digits as there is
+/// room.
 #[inline]
-pub fn digits_of_element(x: u32, count: u32) -> [u8; 4]
-    requires few { 1 ≤ count }
+pub fn put_elements(word: u64, width: u32, count: u32, digits: &mut [u8])
+    requires widths { IsTrue (width == 1 || width == 2 || width == 4 || width == 8 || width == 16) }
+    requires some { 1 ≤ count }
     requires most { count ≤ 4 }
-    ensures { take count result ≡ digits_down x count }
+    requires room { length digits.old ≤ 64 / width * count }
+    ensures { digits.new ≡ elements_of width count word (length digits.old) }
 {
-    let last = hex_digit((x % 16) as u8);
-    if count == 4 {
-        let first = hex_digit((x / 4096 % 16) as u8);
-        let second = hex_digit((x / 256 % 16) as u8);
-        let third = hex_digit((x / 16 % 16) as u8);
-        [first, second, third, last]
-    } else if count == 3 {
-        let first = hex_digit((x / 256 % 16) as u8);
-        let second = hex_digit((x / 16 % 16) as u8);
-        [first, second, last, 0]
-    } else if count == 2 {
-        [hex_digit((x / 16 % 16) as u8), last, 0, 0]
-    } else {
-        [last, 0, 0, 0]
+    match count {
+        1 => put_elements_by(word, width, 1, digits),
+        2 => put_elements_by(word, width, 2, digits),
+        3 => put_elements_by(word, width, 3, digits),
+        _ => put_elements_by(word, width, 4, digits),
     }
+}
+
+/// The same. It is a part of each of its callers, which know the number of digits.
+#[inline]
+fn put_elements_by(word: u64, width: u32, count: u32, digits: &mut [u8])
+    requires widths { IsTrue (width == 1 || width == 2 || width == 4 || width == 8 || width == 16) }
+    requires some { 1 ≤ count }
+    requires most { count ≤ 4 }
+    requires room { length digits.old ≤ 64 / width * count }
+    ensures { digits.new ≡ elements_of width count word (length digits.old) }
+{
+    for place in 0..digits.len() {
+        digits[place] = hex_digit(element_digit(word, width, count, place as u32));
+    }
+}
+
+/// The digit at this place of the elements of the word.
+#[inline]
+fn element_digit(word: u64, width: u32, count: u32, place: u32) -> u8
+    requires widths { IsTrue (width == 1 || width == 2 || width == 4 || width == 8 || width == 16) }
+    requires some { 1 ≤ count }
+    requires most { count ≤ 4 }
+    requires within { place < 64 / width * count }
+    ensures digit { result ≡ digit_of_elements width count word place }
+    ensures small { result < 16 }
+{
+    let element = (word >> (place / count * width)) % (1 << width);
+    ((element >> (4 * (count - 1 - place % count))) % 16) as u8
 }
 
 /// A number in hexadecimal, at the end of eight bytes.

@@ -1,6 +1,6 @@
 //! How the entries of a headed text are spelled.
 
-ghost use Rattle.std.specs.Prelude.{◌≡◌, ◌*◌, ◌^◌, ◌≤◌};
+ghost use Rattle.std.specs.Prelude.{◌≡◌, ◌*◌, ◌≤◌};
 ghost use Rattle.m4_model.specs.Field.{width};
 ghost use Rattle.m4_model.specs.Headed.{digits_per_element};
 ghost use Rattle.m4_field.specs.Fields.{the_field};
@@ -8,6 +8,7 @@ ghost use Rattle.m4_etext.specs.Pieces.{digits_in};
 ghost use Rattle.m4_etext.specs.Kinds.{spelled_by};
 
 use m4_field::Field;
+use m4_mzd::MOST_SIDE;
 
 /// How the entries of a headed text are spelled.
 #[derive(Clone, Copy)]
@@ -36,9 +37,9 @@ pub fn element_digits(field: &Field) -> u32
 /// How many digits the line of a row of so many columns has.
 #[inline]
 pub fn line_digits(kind: Kind, field: &Field, cols: u32) -> u32
-    requires { cols * width (the_field field.now) ≤ 2 ^ 24 }
+    requires { cols * width (the_field field.now) ≤ MOST_SIDE }
     ensures count { result ≡ digits_in (spelled_by kind (the_field field.now)) cols }
-    ensures few { result ≤ 2 ^ 24 }
+    ensures few { result ≤ MOST_SIDE }
 {
     let _width = field.width();
     match kind {

@@ -22,6 +22,7 @@ mod fault;
 mod fed;
 mod form;
 mod form_reader;
+mod gathered;
 mod head;
 mod header;
 mod hex;

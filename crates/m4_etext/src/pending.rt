@@ -1,12 +1,12 @@
 //! Bytes on their way to a sink, which go there in large pieces.
 
-ghost use Rattle.std.specs.Prelude.{◌≡◌, ◌+◌, ◌≤◌, [], ◌∷◌, ◌++◌, decimal, length, OnOk};
+ghost use Rattle.std.specs.Prelude.{◌≡◌, ◌+◌, ◌*◌, ◌/◌, ◌≤◌, ◌==◌, ◌||◌, [], ◌∷◌, ◌++◌, decimal, length, OnOk, IsTrue};
 ghost use Rattle.m4_bits.specs.Digits.{digits_of};
 ghost use Rattle.m4_io.specs.Outside.{WritesAll};
 ghost use Rattle.m4_etext.specs.Pending.{Puts};
-ghost use Rattle.m4_etext.specs.Digits.{fours_of};
+ghost use Rattle.m4_etext.specs.Digits.{fours_of, elements_of};
 
-use crate::hex::put_fours;
+use crate::hex::{put_elements, put_fours};
 use itoa::Buffer;
 use m4_bits::put_digits;
 use m4_io::{Failed, Sink, write_whole};
@@ -86,6 +86,30 @@ impl Pending {
         self.make_room(sink)?;
         let end = self.len + count;
         put_fours(word, &mut self.bytes[self.len..end]);
+        self.len = end;
+        Ok(())
+    }
+
+    /// Puts the first `len` digits of the elements of the word, of `width` bits and `count` digits each, at most 64.
+    pub fn put_elements<O: Sink>(
+        &mut self,
+        word: u64,
+        width: u32,
+        count: u32,
+        len: usize,
+        sink: &mut O,
+    ) -> Result<(), Failed>
+        requires widths { IsTrue (width == 1 || width == 2 || width == 4 || width == 8 || width == 16) }
+        requires some { 1 ≤ count }
+        requires most { count ≤ 4 }
+        requires room { len ≤ 64 / width * count }
+        requires few { len ≤ 64 }
+        ensures { Puts (O.taken sink.old) (O.taken sink.new) (O.faults sink.old) (O.faults sink.new)
+            self.old self.new result (elements_of width count word len) }
+    {
+        self.make_room(sink)?;
+        let end = self.len + len;
+        put_elements(word, width, count, &mut self.bytes[self.len..end]);
         self.len = end;
         Ok(())
     }

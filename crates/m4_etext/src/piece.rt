@@ -6,7 +6,7 @@ ghost use Rattle.m4_etext.specs.Pieces.{BodySoFar, Stops, ReadsDigits, IsDigitAt
 ghost use Rattle.m4_etext.specs.Kinds.{spelled_by, Suits};
 
 use crate::bits::{take_bits, take_fours};
-use crate::elements::take_element_digit;
+use crate::elements::take_elements;
 use crate::kind::{Kind, line_digits};
 use m4_mzed::{EWinMut, Mzed};
 
@@ -92,6 +92,6 @@ fn take_digits(bytes: &[u8], whole: &mut EWinMut, kind: Kind, r: u32, t: u32) ->
     match kind {
         Kind::OfBits => take_bits(bytes, whole, r, t),
         Kind::OfFours => take_fours(bytes, whole, r, t),
-        Kind::OfElements => take_element_digit(bytes, whole, r, t),
+        Kind::OfElements => take_elements(bytes, whole, r, t),
     }
 }

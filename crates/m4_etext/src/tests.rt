@@ -230,9 +230,9 @@ fn next(seed: &mut u64) -> u64 {
     word
 }
 
-/// A field of degree 1, 2, 4, 9 or 16.
+/// A field of degree 1, 2, 4, 8, 9 or 16.
 fn random_field(seed: &mut u64) -> Field {
-    const FIELDS: [(u32, u32); 4] = [(2, 0x7), (4, 0x13), (9, 0x203), (16, 0x1002b)];
+    const FIELDS: [(u32, u32); 5] = [(2, 0x7), (4, 0x13), (8, 0x11b), (9, 0x203), (16, 0x1002b)];
     match FIELDS.get((next(seed) % 8) as usize) {
         Some(&(degree, poly)) => Field::new(degree, poly).unwrap_or(Field::gf2()),
         None => Field::gf2(),

@@ -11,7 +11,7 @@ ghost use Rattle.m4_etext.specs.Pieces.{glyphs};
 ghost use Rattle.m4_etext.specs.Kinds.{spelled_by, Suits};
 
 use crate::WriteFault;
-use crate::hex::{digits_of_element, hex_number};
+use crate::hex::hex_number;
 use crate::kind::{Kind, element_digits};
 use crate::pending::Pending;
 use m4_bits::words_for;
@@ -180,7 +180,7 @@ fn put_fours<O: Sink>(m: &Mzed, r: u32, pending: &mut Pending, sink: &mut O) -> 
     Ok(())
 }
 
-/// Puts the digits of row `r`, element by element.
+/// Puts the digits of row `r` element by element, word by word.
 fn put_elements<O: Sink>(
     m: &Mzed,
     r: u32,
@@ -191,10 +191,16 @@ fn put_elements<O: Sink>(
     ensures { Puts (O.taken sink.old) (O.taken sink.new) (O.faults sink.old) (O.faults sink.new)
         pending.old pending.new result (glyphs (Elements m.now.field) (row m.now r)) }
 {
+    let entries = m.all().packed();
+    let _rows = entries.rows();
+    let width = m.field().width();
     let count = element_digits(&m.field());
-    for c in 0..m.cols() {
-        let digits = digits_of_element(m.get(r, c), count);
-        pending.put(&digits[..count as usize], sink)?;
+    let side = 64 / width;
+    let cols = m.cols();
+    for w in 0..words_for(entries.cols()) {
+        let elements = (cols - side * w).min(side);
+        let len = (elements * count) as usize;
+        pending.put_elements(entries.word(r, w), width, count, len, sink)?;
     }
     Ok(())
 }

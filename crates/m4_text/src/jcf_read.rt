@@ -1,4 +1,4 @@
-ghost use Rattle.std.specs.Prelude.{◌≡◌, ◌^◌, ◌≤◌, false, length, MatchOption, MatchResult, OnOk, IfOk, IfErr};
+ghost use Rattle.std.specs.Prelude.{◌≡◌, ◌≤◌, false, length, MatchOption, MatchResult, OnOk, IfOk, IfErr};
 ghost use Rattle.m4_model.specs.Jcf.{ReadsJcf};
 ghost use Rattle.m4_model.specs.declared.choices.Form.TheVariants.{Jcf};
 ghost use Rattle.m4_text.specs.Refused.{IsRefusedIn};
@@ -7,7 +7,7 @@ ghost use Rattle.m4_text.specs.Tokens.{IsNextNumber, LacksNumber, IsHeaderBefore
 use crate::TextFault;
 use crate::limits::{MOST_BYTES, are_within_limits};
 use crate::tokens::{entry_of, next_token, number};
-use m4_mzd::Mzd;
+use m4_mzd::{MOST_SIDE, Mzd};
 use std::alloc::Global;
 
 /// The modulus of a matrix over GF(2).
@@ -128,7 +128,7 @@ fn read_entries(bytes: &[u8], long: bool, start: usize, m: &mut Mzd) -> Result<(
 /// Where the entry stands that the token spells, in a matrix of so many rows and columns of which so many rows have
 /// begun.
 fn cell_of(token: &[u8], begun: u32, rows: u32, cols: u32) -> Option<Cell>
-    requires { begun ≤ 2 ^ 24 }
+    requires { begun ≤ MOST_SIDE }
     ensures { MatchOption result (LacksCell token.now begun rows cols)
         (λ cell. IsCell token.now begun rows cols cell.row cell.column) }
 {

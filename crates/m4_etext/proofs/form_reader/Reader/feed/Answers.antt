@@ -1,4 +1,4 @@
-use Rattle.std.proofs.Common.{◌≡◌, ℕ, List, ◌++◌, Err, IfErr, sym, ◌∙◌, ap, subst}
+use Rattle.std.proofs.Common.{ℕ, List, ◌++◌, Err, IfErr, sym, ◌∙◌, ap, subst}
 use Rattle.m4_etext.specs.FormReading.{Fed, StandsForText, IsFaultOfAllIn}
 use Rattle.m4_etext.proofs.FormReaders.{headed_feed_fails, bits_feed_fails}
 use Rattle.m4_etext.proofs.form_reader.Reader.feed.Goals.{in-OfHeaded, in-OfBits+in-Ok, in-OfBits+in-Err}
