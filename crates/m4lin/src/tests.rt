@@ -1,6 +1,7 @@
 //! Runs over files and sinks in memory, with what they end with.
 ghost use Rattle.std.specs.Prelude.{◌<◌};
 
+mod elimination;
 mod fields;
 mod questions;
 mod random;

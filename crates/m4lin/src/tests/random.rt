@@ -1,5 +1,7 @@
 //! Random matrices and systems of equations: the answers meet their definitions, whatever engine is chosen.
 
+ghost use Rattle.std.specs.Prelude.{◌<◌};
+
 use super::{AMPLE, ENGINES, Outside, run_on, run_over};
 use m4_cmd::Status;
 use m4_model::NoMemory;
@@ -250,36 +252,46 @@ fn numbers(
     Ok(numbers)
 }
 
-/// The digits of a row in this order, at the end of a text.
+/// The entries of a row, of so many digits each, in this order at the end of a text.
 fn push_reordered(
     rt: &impl Abort,
+    alloc: Global,
     text: &mut String,
     digits: &[u8],
+    count: usize,
     order: &[usize],
-) -> Result<(), AllocError> {
+) -> Result<(), AllocError>
+    requires { 0 < count }
+{
+    let mut entries = Vec::new(alloc);
+    entries.extend(digits.chunks(count))?;
     for place in order {
-        let one = *digits.get(*place).expect(rt, "an entry") == b'1';
-        text.push(if one { '1' } else { '0' })?;
+        let entry = *entries.get(*place).expect(rt, "an entry");
+        text.push_str(std::str::from_utf8(entry).expect(rt, "digits"))?;
     }
     Ok(text.push('\n')?)
 }
 
-/// A matrix with its rows and columns in these orders.
+/// A matrix, whose entries have so many digits, with its rows and columns in these orders.
 fn reordered(
     rt: &impl Abort,
     alloc: Global,
     a: &str,
+    count: usize,
     rows: &[usize],
     columns: &[usize],
-) -> Result<String, NoMemory> {
-    let mut lines = Vec::new(alloc);
-    for line in a.lines().skip(1) {
-        lines.push(line.as_bytes())?;
+) -> Result<String, NoMemory>
+    requires { 0 < count }
+{
+    let mut lines = a.lines();
+    let mut text = format!(in alloc; "{}\n", lines.next().expect(rt, "a header"))?;
+    let mut all = Vec::new(alloc);
+    for line in lines {
+        all.push(line.as_bytes())?;
     }
-    let mut text = format!(in alloc; "gf2 {} {}\n", rows.len(), columns.len())?;
     for row in rows {
-        let digits = lines.get(*row).expect(rt, "a row");
-        push_reordered(rt, &mut text, digits, columns)?;
+        let digits = *all.get(*row).expect(rt, "a row");
+        push_reordered(rt, alloc, &mut text, digits, count, columns)?;
     }
     Ok(text)
 }
@@ -301,9 +313,9 @@ fn next_matrix(
 
 /// What is written of the factors of a matrix: the order of the rows, what is told of the columns, and two matrices.
 #[derive(Drop)]
-struct Factored {
+pub(super) struct Factored {
     rows: Vec<usize>,
-    columns: Vec<usize>,
+    pub(super) columns: Vec<usize>,
     lower: String,
     upper: String,
 }
@@ -328,7 +340,7 @@ fn next_factors(
 }
 
 /// The factors that a command writes of this matrix, below its rank.
-fn factors_of(
+pub(super) fn factors_of(
     rt: &impl Abort,
     alloc: Global,
     (command, name): (&str, &str),
@@ -344,14 +356,17 @@ fn factors_of(
     Ok(factors)
 }
 
-/// Sees that factors multiply to this matrix, with its rows and columns in order.
-fn assert_factored(
+/// Sees that factors multiply to this matrix, whose entries have so many digits, with its rows and columns in order.
+pub(super) fn assert_factored(
     rt: &impl Abort,
     alloc: Global,
     a: &str,
+    count: usize,
     factors: &Factored,
     columns: &[usize],
-) -> Result<(), NoMemory> {
+) -> Result<(), NoMemory>
+    requires { 0 < count }
+{
     let product = done(
         rt,
         alloc,
@@ -359,7 +374,7 @@ fn assert_factored(
         &factors.lower,
         &factors.upper,
     )?;
-    assert!(rt; product == reordered(rt, alloc, a, &factors.rows, columns)?);
+    assert!(rt; product == reordered(rt, alloc, a, count, &factors.rows, columns)?);
     Ok(())
 }
 
@@ -379,9 +394,9 @@ fn factors(rt: HostRuntime) -> Result<(), Fail> {
         let mut in_place = Vec::new(alloc);
         in_place.extend(0..shape.1 as usize + 64)?;
         let ple = factors_of(&rt, alloc, ("ple", "pivots"), &a)?;
-        assert_factored(&rt, alloc, &a, &ple, &in_place)?;
+        assert_factored(&rt, alloc, &a, 1, &ple, &in_place)?;
         let pluq = factors_of(&rt, alloc, ("pluq", "columns"), &a)?;
-        assert_factored(&rt, alloc, &a, &pluq, &pluq.columns)?;
+        assert_factored(&rt, alloc, &a, 1, &pluq, &pluq.columns)?;
         assert_eq!(rt; pluq.columns.len(), in_place.len());
         assert_eq!(rt;
             pluq.columns.get(..ple.columns.len()),
