@@ -1,0 +1,5 @@
+mod Examples
+mod FillLemmas
+mod GeneratedLemmas
+mod MaskLemmas
+mod WordLemmas
