@@ -10,7 +10,8 @@
 # of each, and the first in terms of the second; both must have written the same bytes.
 #
 # Where FIELD is a degree and a polynomial in hexadecimal, as FIELD='8 11b', matrices are over that field, the C program stands
-# over libm4rie, and the commands are mul, add, transpose, stack, augment and convert. M4RIE has no transpose: it goes entry by entry.
+# over libm4rie, and the commands are mul, add, transpose, stack, augment, convert, rank, echelon, inverse and solve. M4RIE has no
+# transpose, which goes entry by entry, and no solution of a system: A beside B is reduced for it.
 set -eu
 top=$(cd "$(dirname "$0")/.." && pwd)
 m4lin=$top/crates/m4lin/out/m4lin
@@ -20,7 +21,7 @@ if [ -z "$field" ]; then
     commands=${*:-mul transpose rank echelon inverse solve}
 else
     library=m4rie name=M4RIE
-    commands=${*:-mul add transpose stack augment convert}
+    commands=${*:-mul add transpose stack augment convert rank echelon inverse solve}
 fi
 sizes=${SIZES:-1024 2048 4096}
 rounds=${ROUNDS:-5}
@@ -186,7 +187,7 @@ static void write_text(const mzed_t *a) {
         const word *words = a->x->rows[r];
         char *digit = line;
         for (int c = 0; c < a->ncols; c++) {
-            word element = words[(size_t)c * a->w / 64] >> (size_t)c * a->w % 64;
+            word element = words[(size_t)c * a->w / 64] >> (size_t)c * a->w % 64 & (((word)1 << a->w) - 1);
             for (int d = digits - 1; d >= 0; d--) *digit++ = "0123456789abcdef"[element >> 4 * d & 15];
         }
         *digit = '\n';
@@ -202,15 +203,33 @@ static mzed_t *transpose(const mzed_t *a) {
     return turned;
 }
 
+/* Random elements; a regular matrix is the product of two triangles with ones on their diagonals. */
+static void make(gf2e *field, int size, unsigned seed, int regular) {
+    srandom(seed);
+    mzed_t *a = mzed_init(field, size, size);
+    mzed_randomize(a);
+    if (regular) {
+        mzed_t *lower = mzed_copy(NULL, a), *upper = mzed_init(field, size, size);
+        mzed_randomize(upper);
+        for (int r = 0; r < size; r++) {
+            mzed_write_elem(lower, r, r, 1);
+            mzed_write_elem(upper, r, r, 1);
+            for (int c = r + 1; c < size; c++) {
+                mzed_write_elem(lower, r, c, 0);
+                mzed_write_elem(upper, c, r, 0);
+            }
+        }
+        mzed_mul(a, lower, upper);
+    }
+    write_text(a);
+}
+
 int main(int count, char **words) {
     if (count < 4) fail("words are missing");
     const char *command = words[1];
     gf2e *field = gf2e_init(strtoul(words[2], NULL, 16));
     if (strcmp(command, "make") == 0) {
-        srandom((unsigned)atoi(words[4]));
-        mzed_t *a = mzed_init(field, atoi(words[3]), atoi(words[3]));
-        mzed_randomize(a);
-        write_text(a);
+        make(field, atoi(words[3]), (unsigned)atoi(words[4]), atoi(words[5]));
         return 0;
     }
     mzed_t *a = read_text(words[3], field);
@@ -226,6 +245,18 @@ int main(int count, char **words) {
         write_text(transpose(a));
     } else if (strcmp(command, "convert") == 0) {
         write_text(a);
+    } else if (strcmp(command, "rank") == 0) {
+        printf("rank %d\n", mzed_echelonize(a, 0));
+    } else if (strcmp(command, "echelon") == 0) {
+        mzed_echelonize(a, 1);
+        write_text(a);
+    } else if (strcmp(command, "inverse") == 0) {
+        write_text(mzed_invert_newton_john(NULL, a));
+    } else if (strcmp(command, "solve") == 0) {
+        mzed_t *b = read_text(words[4], field);
+        mzed_t *both = mzed_concat(NULL, a, b);
+        mzed_echelonize(both, 1);
+        write_text(mzed_submatrix(NULL, both, 0, a->ncols, a->nrows, both->ncols));
     } else {
         fail("no such command");
     }
