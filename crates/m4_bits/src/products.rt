@@ -6,24 +6,24 @@ ghost use Rattle.m4_bits.specs.Products.{products, row_products};
 
 use super::merge;
 
-/// Adds to the row `dst`, from column `first` on, the products of the words of `src`, a row of as many words: for each `i`
-/// factor `i`, at each place of `low` where the word, shifted down by `i`, has a one.
+/// Adds to the row `dst`, from column `first` on, the products of the words of `src`, a row of as many words: for each `i` the
+/// bits of pattern `i`, at the `N` places from each one of `low` on where the word, shifted down by `i`, has a one.
 ///
-/// With `low` the lowest bits of numbers of `w` bits that stand side by side, and factors below `2^w`, nothing is carried
-/// from a number to the next, and each becomes the sum of the factors of its bits. Of the last words the bits of `last` are
-/// read and changed alone. Every bit before `first` stays.
+/// With `low` the lowest bits of numbers of `N` bits that stand side by side, and a pattern that has one factor at each of
+/// them, each number becomes the sum of the patterns of its bits. Of the last words the bits of `last` are read and changed
+/// alone. Every bit before `first` stays.
 pub fn add_products<const N: usize>(
     dst: &mut [u64],
     src: &[u64],
     first: u32,
     last: u64,
     low: u64,
-    factors: &[u64; N],
+    patterns: &[u64; N],
 )
     requires same { length dst.old ≡ length src.now }
-    requires few { N ≤ 64 }
+    requires few { N < 64 }
     ensures long { length dst.new ≡ length dst.old }
-    ensures added { (k : ℕ) → first ≤ k → bit dst.new k ≡ bit (row_sum dst.old (masked (row_products N low factors.now src.now last) last)) k }
+    ensures added { (k : ℕ) → first ≤ k → bit dst.new k ≡ bit (row_sum dst.old (masked (row_products N low patterns.now src.now last) last)) k }
     ensures kept { (k : ℕ) → k < first → bit dst.new k ≡ bit dst.old k }
 {
     let place = (first / 64) as usize;
@@ -33,8 +33,12 @@ pub fn add_products<const N: usize>(
     let end = dst.len() - 1;
     let head = dst[place];
     let tail = dst[end];
-    add_whole_words(dst, src, place, low, factors);
-    dst[end] = merge(tail, tail ^ product_of(src[end] & last, low, factors), last);
+    add_whole_words(dst, src, place, low, patterns);
+    dst[end] = merge(
+        tail,
+        tail ^ product_of(src[end] & last, low, patterns),
+        last,
+    );
     dst[place] = merge(head, dst[place], u64::MAX << (first % 64));
 }
 
@@ -45,29 +49,31 @@ fn add_whole_words<const N: usize>(
     src: &[u64],
     from: usize,
     low: u64,
-    factors: &[u64; N],
+    patterns: &[u64; N],
 )
     requires same { length dst.old ≡ length src.now }
-    requires few { N ≤ 64 }
+    requires few { N < 64 }
     ensures long { length dst.new ≡ length dst.old }
-    ensures added { (k : ℕ) → from ≤ k → k < length dst.old → slice_index dst.new k ≡ bit_xor (slice_index dst.old k) (products N low factors.now (slice_index src.now k)) }
+    ensures added { (k : ℕ) → from ≤ k → k < length dst.old → slice_index dst.new k ≡ bit_xor (slice_index dst.old k) (products N low patterns.now (slice_index src.now k)) }
     ensures kept { (k : ℕ) → k < from → slice_index dst.new k ≡ slice_index dst.old k }
 {
     for k in from..dst.len() {
-        dst[k] ^= product_of(src[k], low, factors);
+        dst[k] ^= product_of(src[k], low, patterns);
     }
 }
 
-/// The product of one word: the sum, for each `i`, of factor `i` at each place of `low` where the word, shifted down by `i`,
-/// has a one.
+/// The product of one word: the sum, for each `i`, of the bits of pattern `i` at the `N` places from each one of `low` on where
+/// the word, shifted down by `i`, has a one. The places are filled by a shift and a difference, which the processor has for
+/// many words at once, as it has no product of so many bits.
 #[inline(always)]
-pub fn product_of<const N: usize>(word: u64, low: u64, factors: &[u64; N]) -> u64
-    requires { N ≤ 64 }
-    ensures { result ≡ products N low factors.now word }
+pub fn product_of<const N: usize>(word: u64, low: u64, patterns: &[u64; N]) -> u64
+    requires { N < 64 }
+    ensures { result ≡ products N low patterns.now word }
 {
     let mut sum = 0;
     for i in 0..N {
-        sum ^= ((word >> i) & low).wrapping_mul(factors[i]);
+        let ones = (word >> i) & low;
+        sum ^= (ones << N).wrapping_sub(ones) & patterns[i];
     }
     sum
 }

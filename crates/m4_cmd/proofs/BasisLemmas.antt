@@ -5,8 +5,8 @@ use Rattle.m4_model.specs.Field.{width}
 use Rattle.m4_model.specs.Matrix.{Matrix}
 use Rattle.m4_model.specs.Rank.{IsRank}
 use Rattle.m4_model.specs.Text.{IsWithinLimits}
-use Rattle.m4_model.specs.Outcome.{ShareField}
-use Rattle.m4_model.specs.declared.command.Command.TheVariants.{Kernel}
+use Rattle.m4_outcome.specs.Outcome.{ShareField}
+use Rattle.m4_outcome.specs.declared.command.Command.TheVariants.{Kernel}
 use Rattle.m4_model.proofs.RankLemmas.{same_rank}
 use Rattle.m4_cmd.specs.Steps.{PassesBounds}
 

@@ -4,8 +4,8 @@ use Rattle.std.specs.Io.KnownBytes.{Consumes, IsAtEnd}
 use Rattle.std.proofs.lemmas.List.{length-take-le}
 use Rattle.m4_model.specs.Matrix.{Matrix}
 use Rattle.m4_model.specs.FormTexts.{ReadsAs}
-use Rattle.m4_model.specs.Outcome.{Stock}
-use Rattle.m4_model.specs.declared.choices.Form.{Form}
+use Rattle.m4_model.specs.Stock.{Stock}
+use Rattle.m4_model.specs.declared.form.Form.{Form}
 use Rattle.m4_etext.specs.FormReading.{Fed, StandsForText, IsFaultIn, IsFaultOfAllIn, MayGoOn}
 use Rattle.m4_etext.specs.declared.fault.TextFault.{TextFault}
 use Rattle.m4_cmd.specs.Files.{HasFed}

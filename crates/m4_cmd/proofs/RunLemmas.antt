@@ -1,10 +1,11 @@
 -- Each clause of `run`, from what the work gives: by cases on the status.
 use Rattle.std.proofs.Common.{◌≡◌, ℕ, ◌<◌, ◌⊎◌, List, [], length, Option, Some, None, Ok, Err, refl, sym, ◌∙◌, ap, subst, arith, inl, inr, append-nil, length-append}
 use Rattle.std.specs.Io.KnownBytes.{Appends, Keeps}
-use Rattle.m4_model.specs.Words.{Job, job, form_of_answer}
-use Rattle.m4_model.specs.Outcome.{Stock, Answer, Operands, IsWritten, Outcome, status_of, can_hold_answer, text_of_answer, fault_line}
-use Rattle.m4_model.specs.declared.status.Status.{Status}
-use Rattle.m4_model.specs.declared.status.Status.TheVariants.{Done, No, Words, Text, Shape, Limit, Read, Write, Memory}
+use Rattle.m4_outcome.specs.Words.{Job, job, form_of_answer}
+use Rattle.m4_model.specs.Stock.{Stock}
+use Rattle.m4_outcome.specs.Outcome.{Answer, Operands, IsWritten, Outcome, status_of, can_hold_answer, text_of_answer, fault_line}
+use Rattle.m4_outcome.specs.declared.status.Status.{Status}
+use Rattle.m4_outcome.specs.declared.status.Status.TheVariants.{Done, No, Words, Text, Shape, Limit, Read, Write, Memory}
 use Rattle.m4_io.specs.Outside.{Rose, AppendsFront}
 use Rattle.m4_cmd.specs.Run.{Change, IsAsked, IsAnswered, IsJudged, IsRefused, LacksOperand, Answers, AnswersInPart, Reports}
 use Rattle.m4_cmd.specs.Steps.{NoReadFailed, NothingWritten, IsJobAnswer, IsDone, JobGives, WorkGives}

@@ -4,9 +4,10 @@ use Rattle.std.proofs.lemmas.List.{drop_more, take_more, take-append-drop, lengt
 use Rattle.m4_model.specs.Matrix.{Matrix}
 use Rattle.m4_model.specs.Headed.{Fault, BadAt, BadDegreeAt, ReducibleAt, PastLimit}
 use Rattle.m4_model.specs.FormTexts.{ReadsAs, RefusalAs}
-use Rattle.m4_model.specs.Words.{Job, form_of_files, form_of_answer}
-use Rattle.m4_model.specs.Outcome.{Stock, bytes_of, Accepted, Answer, status_of}
-use Rattle.m4_model.specs.declared.choices.Form.{Form}
+use Rattle.m4_outcome.specs.Words.{Job, form_of_files, form_of_answer}
+use Rattle.m4_model.specs.Stock.{Stock, bytes_of}
+use Rattle.m4_outcome.specs.Outcome.{Accepted, Answer, status_of}
+use Rattle.m4_model.specs.declared.form.Form.{Form}
 use Rattle.m4_field.specs.declared.field.FieldFault.TheVariants.{BadDegree, Reducible}
 use Rattle.m4_io.specs.Outside.{Rose, Starts}
 use Rattle.m4_etext.specs.declared.fault.TextFault.TheVariants.{Bad, Field, Limit, NoMemory}

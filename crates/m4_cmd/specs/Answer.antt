@@ -1,7 +1,7 @@
 -- The answers of the code, as the definitions see them.
 use Rattle.std.specs.Prelude.{codes}
-use Rattle.m4_model.specs.Outcome.{OneMatrix, Lines, NoAnswer, rank_line}
-use Rattle.m4_model.specs.Outcome.{Answer as Answered}
+use Rattle.m4_outcome.specs.Outcome.{OneMatrix, Lines, NoAnswer, rank_line}
+use Rattle.m4_outcome.specs.Outcome.{Answer as Answered}
 use Rattle.m4_cmd.specs.Factors.{ple_text, pluq_text}
 use Rattle.m4_cmd.specs.declared.answer.Answer.{Answer}
 use Rattle.m4_cmd.specs.declared.answer.Answer.TheVariants as answers

@@ -1,6 +1,7 @@
 -- The texts of factors.
 use Rattle.std.specs.Prelude.{ℕ, List, length, codes}
-use Rattle.m4_model.specs.Outcome.{factors_text, numbers_line}
+use Rattle.m4_model.specs.NumberLines.{numbers_line}
+use Rattle.m4_outcome.specs.Outcome.{factors_text}
 use Rattle.m4_dense.specs.declared.factors.PleFactors.{PleFactors}
 use Rattle.m4_dense.specs.declared.factors.PluqFactors.{PluqFactors}
 

@@ -1,6 +1,6 @@
 -- What a file's bytes are taken for as they are read, and why a file isn't read as a matrix.
 use Rattle.std.specs.Prelude.{◌≡◌, ℕ, List, Option, Some}
-use Rattle.m4_model.specs.declared.choices.Form.{Form}
+use Rattle.m4_model.specs.declared.form.Form.{Form}
 use Rattle.m4_io.specs.Outside.{Rose}
 use Rattle.m4_etext.specs.FormReading.{Fed, StandsForText, IsFaultIn}
 use Rattle.m4_etext.specs.declared.fault.TextFault.TheVariants.{Bad, Field, Limit, NoMemory}

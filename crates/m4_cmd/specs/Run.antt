@@ -1,10 +1,11 @@
 -- What `run` says of its answer: the causes of each status, and what was written.
 use Rattle.std.specs.Prelude.{◌≡◌, ℕ, ◌⊎◌, ◌↔◌, List, Option, Some, Ok, Err}
 use Rattle.std.specs.Io.KnownBytes.{Appends}
-use Rattle.m4_model.specs.Words.{Job, job}
-use Rattle.m4_model.specs.Outcome.{Stock, MissingOperand, Outcome, code_of, fault_line}
-use Rattle.m4_model.specs.declared.status.Status.{Status}
-use Rattle.m4_model.specs.declared.status.Status.TheVariants.{Done, No, Words, Text, Shape, Limit, Read, Write, Memory}
+use Rattle.m4_outcome.specs.Words.{Job, job}
+use Rattle.m4_model.specs.Stock.{Stock}
+use Rattle.m4_outcome.specs.Outcome.{MissingOperand, Outcome, code_of, fault_line}
+use Rattle.m4_outcome.specs.declared.status.Status.{Status}
+use Rattle.m4_outcome.specs.declared.status.Status.TheVariants.{Done, No, Words, Text, Shape, Limit, Read, Write, Memory}
 use Rattle.m4_io.specs.Outside.{Rose, AppendsFront}
 
 -- What was taken of a stream before and after, and its counts of faults.

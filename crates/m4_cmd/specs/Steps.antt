@@ -5,12 +5,13 @@ use Rattle.std.specs.Io.KnownBytes.{Appends}
 use Rattle.m4_model.specs.Matrix.{Matrix}
 use Rattle.m4_model.specs.Headed.{Fault, PastLimit}
 use Rattle.m4_model.specs.FormTexts.{ReadsAs, RefusalAs}
-use Rattle.m4_model.specs.Words.{Job, job, form_of_files, form_of_answer}
-use Rattle.m4_model.specs.Outcome.{Stock, bytes_of, Accepted, FirstRefused, FirstMissing, ShareField, Fits, InBounds, Answer, HasAnswer, IsFaultAt, status_of, can_hold_answer, text_of_answer}
-use Rattle.m4_model.specs.declared.choices.Form.{Form}
-use Rattle.m4_model.specs.declared.command.Command.{Command}
-use Rattle.m4_model.specs.declared.status.Status.{Status}
-use Rattle.m4_model.specs.declared.status.Status.TheVariants.{Done, No, Words, Text, Shape, Limit, Read, Write, Memory}
+use Rattle.m4_outcome.specs.Words.{Job, job, form_of_files, form_of_answer}
+use Rattle.m4_model.specs.Stock.{Stock, bytes_of}
+use Rattle.m4_outcome.specs.Outcome.{Accepted, FirstRefused, FirstMissing, ShareField, Fits, InBounds, Answer, HasAnswer, IsFaultAt, status_of, can_hold_answer, text_of_answer}
+use Rattle.m4_model.specs.declared.form.Form.{Form}
+use Rattle.m4_outcome.specs.declared.command.Command.{Command}
+use Rattle.m4_outcome.specs.declared.status.Status.{Status}
+use Rattle.m4_outcome.specs.declared.status.Status.TheVariants.{Done, No, Words, Text, Shape, Limit, Read, Write, Memory}
 use Rattle.m4_io.specs.Outside.{Rose, Lacks, AppendsFront}
 use Rattle.m4_cmd.specs.Run.{Output, Change}
 use Rattle.m4_cmd.specs.declared.operands.OperandFault.{OperandFault}

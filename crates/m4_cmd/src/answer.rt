@@ -1,7 +1,7 @@
 //! What a command answers, or why it has no answer.
 
 ghost use Rattle.std.specs.Prelude.{◌≡◌, IfOk, IfErr};
-ghost use Rattle.m4_model.specs.Outcome.{HasAnswer, status_of};
+ghost use Rattle.m4_outcome.specs.Outcome.{HasAnswer, status_of};
 ghost use Rattle.m4_cmd.specs.Answer.{answer_told};
 ghost use Rattle.m4_cmd.specs.Steps.{AnswerFails, answer_status};
 
@@ -9,7 +9,8 @@ use crate::bounds::in_known_bounds;
 use crate::compute::compute;
 use crate::fits::{fits, share_field};
 use m4_dense::{How, Mzed, PleFactors, PluqFactors};
-use m4_model::{Command, NoMemory, Status};
+use m4_model::NoMemory;
+use m4_outcome::{Command, Status};
 use std::alloc::Global;
 
 /// What a command answers.

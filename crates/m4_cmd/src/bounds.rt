@@ -2,12 +2,12 @@
 
 ghost use Rattle.std.specs.Prelude.{◌↔◌, ◌≤◌, IsTrue};
 ghost use Rattle.m4_model.specs.Field.{width};
-ghost use Rattle.m4_model.specs.Outcome.{InKnownBounds};
+ghost use Rattle.m4_outcome.specs.Outcome.{InKnownBounds};
 ghost use Rattle.m4_model.specs.Text.{IsWithinLimits};
 
 use m4_dense::Mzed;
 use m4_etext::within_limits;
-use m4_model::Command;
+use m4_outcome::Command;
 
 /// Whether the shape of the command's answer is within the limits, where it is known from the operands' shapes. That of a
 /// kernel is known from the rank, and is looked at by itself.

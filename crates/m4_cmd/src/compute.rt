@@ -1,7 +1,7 @@
 //! The answer of a command to operands that fit it.
 
 ghost use Rattle.std.specs.Prelude.{◌≡◌, IfOk, IfErr, [], ◌∷◌};
-ghost use Rattle.m4_model.specs.Outcome.{Fits, InKnownBounds, HasAnswer, ShareField};
+ghost use Rattle.m4_outcome.specs.Outcome.{Fits, InKnownBounds, HasAnswer, ShareField};
 ghost use Rattle.m4_cmd.specs.Answer.{answer_told};
 ghost use Rattle.m4_cmd.specs.Steps.{AnswerFails};
 
@@ -11,7 +11,7 @@ use m4_dense::{
     How, Mzd, Mzed, Rect, add_into, add_product, augment, ple, pluq, product, rank, rectangle,
     reduced_form, stack, transpose,
 };
-use m4_model::Command;
+use m4_outcome::Command;
 use std::alloc::Global;
 use std::mem;
 

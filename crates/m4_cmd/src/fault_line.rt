@@ -1,8 +1,8 @@
 ghost use Rattle.std.specs.Prelude.{◌≡◌};
-ghost use Rattle.m4_model.specs.Outcome.{fault_line};
+ghost use Rattle.m4_outcome.specs.Outcome.{fault_line};
 
 use crate::line::{Line, plain_line, push, push_number};
-use m4_model::Status;
+use m4_outcome::Status;
 
 /// What is said on standard error of a status: a line, or nothing for an answer.
 pub(crate) fn line_of(status: &Status) -> Line

@@ -1,11 +1,12 @@
 //! Whether the operands' fields and shapes fit a command.
 
 ghost use Rattle.std.specs.Prelude.{◌≡◌, ◌↔◌, IsTrue};
-ghost use Rattle.m4_model.specs.Outcome.{AreOver, Fits, HasRectangle, HasRoom, ShareField};
+ghost use Rattle.m4_model.specs.Shapes.{HasRoom};
+ghost use Rattle.m4_outcome.specs.Outcome.{AreOver, Fits, HasRectangle, ShareField};
 ghost use Rattle.m4_field.specs.Fields.{the_field};
 
 use m4_dense::{Field, Mzed};
-use m4_model::Command;
+use m4_outcome::Command;
 
 /// Whether the matrices are over one field.
 pub(crate) fn share_field(matrices: &[Mzed]) -> bool

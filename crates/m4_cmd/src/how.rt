@@ -5,7 +5,7 @@ ghost use Rattle.std.specs.Option.{ForSome};
 ghost use Rattle.m4_words.specs.Small.{IsCutoff, IsSmall};
 
 use m4_dense::How;
-use m4_model::Choices;
+use m4_outcome::Choices;
 
 /// How the options choose that a job is computed. What they leave open is left open.
 pub(crate) fn how_of(choices: &Choices) -> How

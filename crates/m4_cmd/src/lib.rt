@@ -20,5 +20,5 @@ mod systems;
 pub use exit::exit_code;
 pub use gate::{Gate, OpenGate};
 pub use m4_io::{Failed, FileShelf, MemShelf, MemSink, Shelf, Sink, StreamSink};
-pub use m4_model::Status;
+pub use m4_outcome::Status;
 pub use program::run;

@@ -1,7 +1,7 @@
 //! Short lines, put together on the stack.
 
 ghost use Rattle.std.specs.Prelude.{◌≡◌, ◌+◌, ◌≤◌, ◌++◌, length, decimal};
-ghost use Rattle.m4_model.specs.Outcome.{rank_line};
+ghost use Rattle.m4_outcome.specs.Outcome.{rank_line};
 
 use arrayvec::ArrayString;
 

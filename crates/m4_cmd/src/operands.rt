@@ -6,7 +6,8 @@ ghost use Rattle.m4_cmd.specs.Steps.{AreReadAs, IsReadAs, OperandFails, Operands
 use crate::files::read_started;
 use m4_dense::Mzed;
 use m4_io::{Failed, Shelf};
-use m4_model::{Form, Status};
+use m4_model::Form;
+use m4_outcome::Status;
 use std::alloc::{AllocFailed, Global};
 
 /// Why the operands can't be had.

@@ -1,7 +1,7 @@
 //! The text of an answer, as it is written.
 
 ghost use Rattle.std.specs.Prelude.{◌≡◌, IfErr, OnOk, codes};
-ghost use Rattle.m4_model.specs.Outcome.{OneMatrix};
+ghost use Rattle.m4_outcome.specs.Outcome.{OneMatrix};
 ghost use Rattle.m4_cmd.specs.Answer.{answer_told};
 ghost use Rattle.m4_cmd.specs.Steps.{OutputFails, Wrote, output_status};
 
@@ -11,7 +11,8 @@ use crate::line::{plain_line, rank_line};
 use m4_dense::Mzed;
 use m4_etext::{WriteFault, can_write, write_text};
 use m4_io::{Failed, Sink, write_whole};
-use m4_model::{Form, Status};
+use m4_model::Form;
+use m4_outcome::Status;
 
 /// Why the text of an answer isn't written, or not whole.
 #[derive(Clone, Copy, Debug, PartialEq, Eq)]

@@ -1,7 +1,7 @@
 ghost use Rattle.std.specs.Prelude.{◌≡◌, ◌<◌, ◌⊎◌, ◌↔◌, ℕ, Some, Err};
 ghost use Rattle.std.specs.Io.KnownBytes.{Keeps};
-ghost use Rattle.m4_model.specs.Words.{job};
-ghost use Rattle.m4_model.specs.Outcome.{Stock};
+ghost use Rattle.m4_outcome.specs.Words.{job};
+ghost use Rattle.m4_model.specs.Stock.{Stock};
 ghost use Rattle.m4_io.specs.Outside.{Rose};
 ghost use Rattle.m4_words.specs.Job.{job_told};
 ghost use Rattle.m4_words.specs.Texts.{texts};
@@ -15,7 +15,7 @@ use crate::how::how_of;
 use crate::operands::read_operands;
 use crate::output::write_answer;
 use m4_io::{Shelf, Sink, write_whole};
-use m4_model::Status;
+use m4_outcome::Status;
 use m4_words::{Job, job_of};
 use std::alloc::Global;
 

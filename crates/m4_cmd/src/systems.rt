@@ -2,9 +2,9 @@
 //! `solve` and `kernel`.
 
 ghost use Rattle.std.specs.Prelude.{◌≡◌, IfOk, IfErr, [], ◌∷◌};
-ghost use Rattle.m4_model.specs.Outcome.{HasAnswer, IsAnswer};
+ghost use Rattle.m4_outcome.specs.Outcome.{HasAnswer, IsAnswer};
 ghost use Rattle.m4_model.specs.Text.{IsWithinLimits};
-ghost use Rattle.m4_model.specs.declared.command.Command.TheVariants.{Inverse, Solve, Kernel};
+ghost use Rattle.m4_outcome.specs.declared.command.Command.TheVariants.{Inverse, Solve, Kernel};
 ghost use Rattle.m4_cmd.specs.Answer.{answer_told};
 ghost use Rattle.m4_cmd.specs.Steps.{AnswerFails};
 

@@ -1,7 +1,7 @@
 -- What is taken where nobody asks for something else.
 use Rattle.std.specs.Prelude.{◌≡◌, ℕ, None, nat_le, ◌&&◌, if◌then◌else◌}
-use Rattle.m4_model.specs.declared.choices.Algo.{Algo}
-use Rattle.m4_model.specs.declared.choices.Algo.TheVariants.{Table, Strassen}
+use Rattle.m4_model.specs.declared.algo.Algo.{Algo}
+use Rattle.m4_model.specs.declared.algo.Algo.TheVariants.{Table, Strassen}
 use Rattle.m4_mzd.specs.declared.add_mul.Shape.{Shape}
 use Rattle.m4_dense.specs.declared.how.How.{How}
 use Rattle.m4_dense.specs.declared.chosen.TheConstants.{HALVES_PAY, LARGE_TABLES_PAY}

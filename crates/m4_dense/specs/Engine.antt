@@ -1,8 +1,8 @@
 -- The engines that multiply: which one is asked for, in which sizes, how large the products are that it takes, and when it can
 -- be called.
 use Rattle.std.specs.Prelude.{◌≡◌, ℕ, ⊤}
-use Rattle.m4_model.specs.declared.choices.Algo.{Algo}
-use Rattle.m4_model.specs.declared.choices.Algo.TheVariants as algos
+use Rattle.m4_model.specs.declared.algo.Algo.{Algo}
+use Rattle.m4_model.specs.declared.algo.Algo.TheVariants as algos
 use Rattle.m4_mzd.specs.declared.TheConstants.{MOST_SIDE}
 use Rattle.m4_mzd.specs.declared.add_mul.Shape.{Shape}
 use Rattle.m4_strassen.specs.Engine.{CanRecurse}

@@ -3,7 +3,7 @@
 ghost use Rattle.std.specs.Prelude.{◌≤◌};
 ghost use Rattle.std.specs.Option.{ForSome};
 ghost use Rattle.m4_gray.specs.declared.TheConstants.{MOST_K, MOST_TABLES};
-ghost use Rattle.m4_model.specs.declared.choices.TheConstants.{LEAST_CUTOFF, MOST_CUTOFF};
+ghost use Rattle.m4_model.specs.declared.algo.TheConstants.{LEAST_CUTOFF, MOST_CUTOFF};
 
 use m4_model::Algo;
 

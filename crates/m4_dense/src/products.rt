@@ -3,7 +3,7 @@
 ghost use Rattle.std.specs.Prelude.{◌≡◌, ◌+◌, ◌*◌, ◌%◌, ◌≤◌, IfOk, OnErr};
 ghost use Rattle.m4_model.specs.Field.{width};
 ghost use Rattle.m4_model.specs.Matrix.{added, product};
-ghost use Rattle.m4_model.specs.Outcome.{HasRoom, with_product};
+ghost use Rattle.m4_model.specs.Shapes.{HasRoom, with_product};
 ghost use Rattle.m4_model.specs.Shapes.{cut, replace};
 ghost use Rattle.m4_mzd.specs.Reach.{IsReached};
 ghost use Rattle.m4_mzd.specs.Rectangles.{IsInside};

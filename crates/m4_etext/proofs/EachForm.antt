@@ -7,8 +7,8 @@ use Rattle.m4_model.specs.Text.{Fault as BitsFault, BadAt as bits_bad_at, PastLi
 use Rattle.m4_model.specs.Texts.{RefusalAs as RefusalBits}
 use Rattle.m4_model.specs.Headed.{Fault, BadAt, BadDegreeAt, ReducibleAt, PastLimit, InLimits}
 use Rattle.m4_model.specs.FormTexts.{can_hold, text_as, ReadsAs, RefusalAs, RefusalBare, RefusalJcf}
-use Rattle.m4_model.specs.declared.choices.Form.{Form}
-use Rattle.m4_model.specs.declared.choices.Form.TheVariants.{Headed, Bare, Jcf, Hex}
+use Rattle.m4_model.specs.declared.form.Form.{Form}
+use Rattle.m4_model.specs.declared.form.Form.TheVariants.{Headed, Bare, Jcf, Hex}
 use Rattle.m4_text.proofs.Once.{never_both as never_both_bits, one_matrix as one_matrix_bits, one_fault as one_fault_bits}
 use Rattle.m4_text.proofs.JcfBack.{read_back as read_back_bits}
 use Rattle.m4_etext.proofs.Once.{read_or_refused}

@@ -2,8 +2,8 @@
 use Rattle.std.specs.Prelude.{◌≡◌, ℕ, ◌^◌, ◌≤◌, List, ◌++◌, length, Option, Some, None, option_map}
 use Rattle.m4_model.specs.Headed.{BadAt, BadDegreeAt, ReducibleAt, PastLimit}
 use Rattle.m4_model.specs.FormTexts.{RefusalAs}
-use Rattle.m4_model.specs.declared.choices.Form.{Form}
-use Rattle.m4_model.specs.declared.choices.Form.TheVariants.{Headed, Bare, Jcf, Hex}
+use Rattle.m4_model.specs.declared.form.Form.{Form}
+use Rattle.m4_model.specs.declared.form.Form.TheVariants.{Headed, Bare, Jcf, Hex}
 use Rattle.m4_field.specs.declared.field.FieldFault.TheVariants.{BadDegree, Reducible}
 use Rattle.m4_text.specs.declared.fault.TextFault.{TextFault as BitsFault}
 use Rattle.m4_text.specs.declared.fault.TextFault.TheVariants.{Bad as bits_bad, Limit as bits_limit, NoMemory as bits_no_memory}

@@ -2,7 +2,7 @@ ghost use Rattle.std.specs.Prelude.{◌≡◌, ◌≤◌, List, ℕ, length};
 ghost use Rattle.m4_model.specs.Matrix.{Matrix};
 ghost use Rattle.m4_model.specs.Headed.{InLimits, Fault};
 ghost use Rattle.m4_model.specs.FormTexts.{can_hold, text_as, ReadsAs, RefusalAs};
-ghost use Rattle.m4_model.specs.declared.choices.Form.{Form};
+ghost use Rattle.m4_model.specs.declared.form.Form.{Form};
 
 use crate::limits::MOST_BYTES;
 

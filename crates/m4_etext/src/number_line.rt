@@ -1,7 +1,7 @@
 //! Lines of numbers.
 
 ghost use Rattle.std.specs.Prelude.{◌≤◌, length};
-ghost use Rattle.m4_model.specs.Outcome.{numbers_line, numbers_text};
+ghost use Rattle.m4_model.specs.NumberLines.{numbers_line, numbers_text};
 ghost use Rattle.m4_io.specs.Outside.{WritesAll};
 ghost use Rattle.m4_etext.specs.Pending.{Puts};
 

@@ -11,7 +11,7 @@ use Rattle.m4_mzd.specs.Window.{Window, content, showing}
 use Rattle.m4_mzd.specs.Rows.{with_word}
 use Rattle.m4_mzd.proofs.PairLemmas.{copied, copied_more}
 use Rattle.m4_mzed.proofs.SumLemmas.{SetTo, set_more, written_again, length-with_word}
-use Rattle.m4_gen.specs.Generated.{word}
+use Rattle.m4_model.specs.Generated.{word}
 use Rattle.m4_gen.specs.Source.{masked_bit}
 
 -- a window whose row r has the bits of g in the words before word w

@@ -21,7 +21,7 @@ use Rattle.m4_mzed.specs.Packed.{unpacked, IsPackedRow}
 use Rattle.m4_mzed.specs.PackedIn.{IsPackedIn}
 use Rattle.m4_mzed.specs.Owned.{e_matrix}
 use Rattle.m4_mzed.proofs.IndexLemmas.{AreBits, unpacked_is}
-use Rattle.m4_gen.specs.Generated.{word, row_word, generated, generated_at}
+use Rattle.m4_model.specs.Generated.{word, row_word, generated, generated_at}
 use Rattle.m4_gen.specs.Source.{masked_bit}
 
 times_le : (a b c : ℕ) → a ≤ b → a * c ≤ b * c

@@ -1,4 +1,3 @@
-mod Examples
 mod FillLemmas
 mod GeneratedLemmas
 mod MaskLemmas

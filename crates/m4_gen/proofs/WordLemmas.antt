@@ -3,7 +3,7 @@ use Rattle.std.proofs.Common.{◌≡◌, ℕ, ◌+◌, ◌*◌, ◌%◌, ◌^◌
 use Rattle.rand_core.specs.Stream.{Stream, next_u64}
 use Rattle.rand_core.specs.Steps.{stream_of}
 use Rattle.rand_xoshiro.specs.SplitMix64.{mix_u64, splitmix_steps}
-use Rattle.m4_gen.specs.Generated.{mix, word}
+use Rattle.m4_model.specs.Generated.{mix, word}
 use Rattle.m4_gen.specs.Source.{HasGiven}
 
 -- a stream gives the word of its state, and the stream of the next state is left

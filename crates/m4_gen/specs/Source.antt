@@ -4,7 +4,7 @@ use Rattle.std.specs.Int.{bit_at}
 use Rattle.m4_model.specs.Text.{words_per_row}
 use Rattle.rand_core.specs.Steps.{stream_of}
 use Rattle.rand_xoshiro.specs.SplitMix64.{splitmix_steps}
-use Rattle.m4_gen.specs.Generated.{word}
+use Rattle.m4_model.specs.Generated.{word}
 
 -- The generator of the seed has given k words.
 abbrev pub HasGiven : ℕ → ℕ → ℕ → Type 0

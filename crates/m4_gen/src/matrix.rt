@@ -3,7 +3,7 @@
 ghost use Rattle.std.specs.Prelude.{◌≡◌, ◌*◌, ◌≤◌, IfOk};
 ghost use Rattle.m4_model.specs.Field.{width};
 ghost use Rattle.m4_field.specs.Fields.{the_field};
-ghost use Rattle.m4_gen.specs.Generated.{generated};
+ghost use Rattle.m4_model.specs.Generated.{generated};
 
 use crate::mask::element_bits;
 use crate::source::fill;

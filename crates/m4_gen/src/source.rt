@@ -6,7 +6,7 @@ ghost use Rattle.m4_model.specs.Field.{gf2};
 ghost use Rattle.m4_model.specs.Matrix.{matrix_of, with_row};
 ghost use Rattle.m4_model.specs.Text.{words_per_row};
 ghost use Rattle.m4_mzd.specs.Window.{content, showing};
-ghost use Rattle.m4_gen.specs.Generated.{word};
+ghost use Rattle.m4_model.specs.Generated.{word};
 ghost use Rattle.m4_gen.specs.Source.{HasGiven, masked_bit};
 
 use m4_bits::words_for;

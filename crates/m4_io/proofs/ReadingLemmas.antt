@@ -1,7 +1,7 @@
 -- Lemmas on the reading of whole files.
 use Rattle.std.proofs.Common.{◌≡◌, ℕ, ◌<◌, List, ◌++◌, length, Bool, IsTrue, Option, Some, None, sym, ap, ◌∙◌, append-nil, inl, inr}
 use Rattle.std.specs.Io.KnownBytes.{Consumes, IsAtEnd}
-use Rattle.m4_model.specs.Outcome.{Stock}
+use Rattle.m4_model.specs.Stock.{Stock}
 use Rattle.m4_io.specs.Reading.{IsRestOrLong}
 
 -- What a loop that reads a started file keeps.

@@ -3,7 +3,7 @@ use Rattle.std.specs.Prelude.{ℕ, ◌+◌, ◌-◌, ◌^◌, ◌<◌, ◌≤◌
 use Rattle.std.specs.declared.alloc.Global.{Global}
 use Rattle.std.specs.declared.vec.Vec.{Vec}
 use Rattle.std.specs.declared.string.String.{String}
-use Rattle.m4_model.specs.Outcome.{Stock}
+use Rattle.m4_model.specs.Stock.{Stock}
 use Rattle.m4_io.specs.declared.mem_shelf.Place.{Place}
 
 -- The calls of a shelf or a sink, numbered from 0: the numbers of those that are to fail, the number of the call that

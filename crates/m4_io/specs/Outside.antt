@@ -2,7 +2,7 @@
 -- writing takes.
 use Rattle.std.specs.Prelude.{◌≡◌, ℕ, ◌+◌, ◌-◌, ◌^◌, ◌≤◌, ◌<◌, min, List, ◌++◌, length, Option, Some, None, Result, MatchResult, OnOk, OnErr, IsErr}
 use Rattle.std.specs.Io.KnownBytes.{Appends}
-use Rattle.m4_model.specs.Outcome.{Stock, bytes_of}
+use Rattle.m4_model.specs.Stock.{Stock, bytes_of}
 
 -- A count of faults rose in a call: it grew, or it stands at the end of its type.
 abbrev pub Rose : ℕ → ℕ → Type 0

@@ -1,6 +1,6 @@
 -- What the reading of a whole file gives, and why it fails.
 use Rattle.std.specs.Prelude.{◌≡◌, ℕ, ◌<◌, ◌⊎◌, ◌↔◌, List, ◌++◌, length, Option, Some, None, codes}
-use Rattle.m4_model.specs.Outcome.{Stock, bytes_of}
+use Rattle.m4_model.specs.Stock.{Stock, bytes_of}
 use Rattle.m4_io.specs.Outside.{Rose, Lacks}
 use Rattle.m4_io.specs.declared.whole.ReadFault.{ReadFault}
 use Rattle.m4_io.specs.declared.whole.ReadFault.TheVariants.{Failed, NoMemory}

@@ -1,6 +1,6 @@
 ghost use Rattle.std.specs.Prelude.{◌≡◌, ◌↔◌, ◌⊎◌, ◌+◌, ◌^◌, ◌≤◌, ◌<◌, min, drop, take, length, Some, None, IsTrue, IfSome, IfOk, OnOk, OnErr, IsErr, MatchOption, is_some, option_map};
 ghost use Rattle.std.specs.Io.KnownBytes.{ReadConsumes};
-ghost use Rattle.m4_model.specs.Outcome.{bytes_of};
+ghost use Rattle.m4_model.specs.Stock.{bytes_of};
 ghost use Rattle.m4_io.specs.Outside.{Rose, Lacks, Starts};
 ghost use Rattle.m4_io.specs.Memory.{MemFiles, stock_of, file_bytes, bytes_from, IsPlaceIn, new_tally, called, faulted, IsToFail};
 

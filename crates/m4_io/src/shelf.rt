@@ -1,6 +1,6 @@
 ghost use Rattle.std.specs.Prelude.{◌≡◌, ℕ, ◌≤◌, ◌<◌, ◌⊎◌, Bool, IsTrue, List, length, Option, OnOk, OnErr, IfOk, IsErr};
 ghost use Rattle.std.specs.Io.KnownBytes.{ReadConsumes};
-ghost use Rattle.m4_model.specs.Outcome.{Stock};
+ghost use Rattle.m4_model.specs.Stock.{Stock};
 ghost use Rattle.m4_io.specs.Outside.{Rose, Lacks, Starts};
 
 use crate::Failed;

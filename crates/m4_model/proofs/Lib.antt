@@ -27,9 +27,8 @@ pub mod XorLemmas
 pub mod RecursionLemmas
 pub mod WinogradLemmas
 mod Examples
-mod WordsExamples
-mod ExampleTests
+pub mod ExampleTests
 mod ExamplesForms
 mod TextExamples
 mod HeadedExamples
-mod SharedExamples
+mod GeneratedExamples

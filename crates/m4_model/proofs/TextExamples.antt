@@ -4,7 +4,6 @@ use Rattle.std.specs.Fmt.{digits}
 use Rattle.m4_model.specs.Field.{gf2}
 use Rattle.m4_model.specs.Matrix.{Matrix}
 use Rattle.m4_model.specs.Bare.{bare_text}
-use Rattle.m4_model.specs.Outcome.{factors_text, numbers_line}
 use Rattle.m4_model.specs.Jcf.{tokens, tokens_from, number, entry, jcf_text, nonzero_columns}
 
 -- a matrix over GF(2)
@@ -53,9 +52,3 @@ jcf_of_three = refl
 jcf_of_one : jcf_text (bits 2 2 ((0 ∷ 1 ∷ []) ∷ (0 ∷ 0 ∷ []) ∷ [])) ≡ codes "2 2 2\n1\n-2\n"
 unfolding digits nonzero_columns
 jcf_of_one = refl
-
--- the text of the factors of a 2 x 2 matrix of rank 1
-factors_of_one_row : factors_text 1 (1 ∷ 0 ∷ []) (numbers_line (codes "pivots") (1 ∷ [])) (bits 2 2 ((1 ∷ 0 ∷ []) ∷ (0 ∷ 1 ∷ []) ∷ [])) (bits 2 2 ((0 ∷ 1 ∷ []) ∷ (0 ∷ 0 ∷ []) ∷ []))
-    ≡ codes "rank 1\nrows 1 0\npivots 1\ngf2 2 2\n10\n01\ngf2 2 2\n01\n00\n"
-unfolding digits
-factors_of_one_row = refl

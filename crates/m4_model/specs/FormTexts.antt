@@ -5,8 +5,8 @@ use Rattle.m4_model.specs.Matrix.{Matrix}
 use Rattle.m4_model.specs.Headed.{headed_text, hex_text, Reads, Refusal, Fault, BadAt, BadDegreeAt, ReducibleAt, PastLimit}
 use Rattle.m4_model.specs.Bare.{bare_text, CanBeBare, ReadsBare, IsBadBare, IsLargeBare}
 use Rattle.m4_model.specs.Jcf.{jcf_text, CanBeJcf, ReadsJcf, IsBadToken, EndsInHeader, PassesLimit, BeginsJcf, judged}
-use Rattle.m4_model.specs.declared.choices.Form.{Form}
-use Rattle.m4_model.specs.declared.choices.Form.TheVariants.{Headed, Bare, Jcf, Hex}
+use Rattle.m4_model.specs.declared.form.Form.{Form}
+use Rattle.m4_model.specs.declared.form.Form.TheVariants.{Headed, Bare, Jcf, Hex}
 
 -- The form can hold the matrix. Bare text and JCF hold matrices over GF(2) alone.
 abbrev pub can_hold : Form → Matrix → Type 0

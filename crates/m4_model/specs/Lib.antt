@@ -11,7 +11,8 @@ pub mod Jcf
 pub mod Texts
 pub mod Headed
 pub mod FormTexts
-pub mod Words
-pub mod Outcome
+pub mod Stock
+pub mod NumberLines
 pub mod Additions
 pub mod Recursion
+pub mod Generated

@@ -1,7 +1,8 @@
 -- Matrices made of parts of others, and orders of rows and columns.
-use Rattle.std.specs.Prelude.{ℕ, suc, ◌+◌, ◌-◌, ◌≤◌, List, [], ◌∷◌, swap, nat_lt, nat_le, ◌&&◌, if◌then◌else◌}
+use Rattle.std.specs.Prelude.{◌≡◌, ℕ, suc, ◌+◌, ◌-◌, ◌*◌, ◌%◌, ◌≤◌, List, [], ◌∷◌, swap, nat_lt, nat_le, ◌&&◌, if◌then◌else◌}
 use Rattle.std.specs.List.{range_with_len}
-use Rattle.m4_model.specs.Matrix.{Matrix, matrix_of, at}
+use Rattle.m4_model.specs.Field.{width}
+use Rattle.m4_model.specs.Matrix.{Matrix, matrix_of, at, added, product}
 
 -- Rows become columns.
 abbrev pub transposed : Matrix → Matrix
@@ -30,6 +31,17 @@ cut A r0 c0 r1 c1 = matrix_of A.field (r1 - r0) (c1 - c0) (λ i j. at A (r0 + i)
 abbrev pub replace : Matrix → ℕ → ℕ → Matrix → Matrix
 replace A r0 c0 W = matrix_of A.field A.rows A.cols (λ i j.
     if (nat_le r0 i && nat_lt i (r0 + W.rows)) && (nat_le c0 j && nat_lt j (c0 + W.cols)) then at W (i - r0) (j - c0) else at A i j)
+
+-- A rectangle of so many rows and columns at this place of C begins at a word's first column, and lies within C.
+pub record HasRoom (C : Matrix) (row col rows cols : ℕ) : Type 0 where
+  pub aligned : col * width C.field % 64 ≡ 0
+  pub within_rows : row + rows ≤ C.rows
+  pub within_cols : col + cols ≤ C.cols
+
+-- C with A B added to the rectangle of its shape at this place.
+abbrev pub with_product : Matrix → ℕ → ℕ → Matrix → Matrix → Matrix
+with_product C row col A B =
+    replace C row col (added (cut C row col (row + A.rows) (col + B.cols)) (product A B))
 
 -- A list after its entries i and s_0 are exchanged, then i + 1 and s_1, and so on.
 unfoldable pub exchanged : ℕ → List ℕ → List ℕ → List ℕ

@@ -4,8 +4,8 @@ use Rattle.m4_model.specs.Matrix.{Matrix}
 use Rattle.m4_model.specs.Text.{text, Reads, Refusal, Fault}
 use Rattle.m4_model.specs.Bare.{bare_text, CanBeBare, ReadsBare, RefusalBare}
 use Rattle.m4_model.specs.Jcf.{jcf_text, CanBeJcf, ReadsJcf, RefusalJcf}
-use Rattle.m4_model.specs.declared.choices.Form.{Form}
-use Rattle.m4_model.specs.declared.choices.Form.TheVariants.{Headed, Bare, Jcf, Hex}
+use Rattle.m4_model.specs.declared.form.Form.{Form}
+use Rattle.m4_model.specs.declared.form.Form.TheVariants.{Headed, Bare, Jcf, Hex}
 
 -- The form can hold the matrix.
 abbrev pub can_hold : Form → Matrix → Type 0

@@ -160,18 +160,18 @@ wrote_tail cols last c old src new xs ys mask long within added stays h g =
     }
 
 -- the products of the words of a row
-pub holds_products : (cols last n low : ℕ) (factors src xs ys : List ℕ) → last ≡ 2 ^ last_bits cols - 1 → Holds cols src xs → AreProducts n low factors xs ys
-    → Holds cols (row_products n low factors src last) ys
-holds_products cols last n low factors src xs ys mask h p =
+pub holds_products : (cols last n low : ℕ) (patterns src xs ys : List ℕ) → last ≡ 2 ^ last_bits cols - 1 → Holds cols src xs → AreProducts n low patterns xs ys
+    → Holds cols (row_products n low patterns src last) ys
+holds_products cols last n low patterns src xs ys mask h p =
     let sources = masked src (2 ^ last_bits cols - 1) in
-    let P : ℕ → Type 0 = λ m. Holds cols (row_products n low factors src m) ys in
+    let P : ℕ → Type 0 = λ m. Holds cols (row_products n low patterns src m) ys in
     subst P (sym mask) (record {
-      long = length-map sources (products n low factors) ∙ length-masked src (2 ^ last_bits cols - 1) ∙ h.long;
+      long = length-map sources (products n low patterns) ∙ length-masked src (2 ^ last_bits cols - 1) ∙ h.long;
       entries_long = p.long ∙ h.entries_long;
       bits = λ j inside.
           let within : j / 64 < length sources = omega (arith, length-masked src (2 ^ last_bits cols - 1), h.long, inside) in
           p.bits (get_or sources (j / 64) 0) j (omega (arith, h.entries_long, inside)) (λ i small. reads (j / 64) i small)
-          ∙ ap (λ w. bit_at w (j % 64)) (sym (get_or-map (products n low factors) sources (j / 64) 0 0 within));
+          ∙ ap (λ w. bit_at w (j % 64)) (sym (get_or-map (products n low patterns) sources (j / 64) 0 0 within));
     })
   where
     reads : (w i : ℕ) → i < 64 → bit_at (get_or (masked src (2 ^ last_bits cols - 1)) w 0) i ≡ get_or xs (w * 64 + i) 0

@@ -21,7 +21,7 @@ next : (i j k : ℕ) → i < j → i * k + k ≤ j * k
 next i j k less = let e = times_le (suc i) j k less in let f : suc i * k ≡ i * k + k = omega arith in omega (arith, e, f)
 
 -- the elements of a shifted number
-element_shifted : (k at i d : ℕ) → d < 2 ^ k → element k i (d * 2 ^ (at * k)) ≡ cond (nat_eq i at) d 0
+pub element_shifted : (k at i d : ℕ) → d < 2 ^ k → element k i (d * 2 ^ (at * k)) ≡ cond (nat_eq i at) d 0
 element_shifted k at i d small = elim (cases_eq i at) [
   | inl here ↦
       same_from_bits_below k _ d (element-lt k i _) small (λ v v_below.

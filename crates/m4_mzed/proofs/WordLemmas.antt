@@ -5,7 +5,7 @@ use Rattle.std.specs.Int.Bits.{xor_lt}
 use Rattle.std.proofs.Math.Nat.{div-div-eq-div-mul, div-lt_iff_lt-mul, div-add-mod, mul-add-mod_self_right}
 use Rattle.std.proofs.Math.Pow.{pow_pos, pow_mono}
 use Rattle.std.proofs.lemmas.Bool.{cases_eq}
-use Rattle.std.proofs.lemmas.Nat.{pow-add, div-mul-add}
+use Rattle.std.proofs.lemmas.Nat.{pow-add, div-mul-add, and_le_r}
 use Rattle.std.proofs.lemmas.Nat.Bits.{bit_at_xor, bit_at_and, bit_at_above, bit_at-lt, same_from_bits_below, bit_at_lowest}
 use Rattle.m4_bits.proofs.TransposeLemmas.{bit_at-mod}
 use Rattle.m4_mzed.specs.Words.{element}
@@ -51,6 +51,13 @@ element-xor w k a b =
     same_from_bits_below w _ _ (element-lt w k (bit_xor a b)) (xor_lt w _ _ (element-lt w k a) (element-lt w k b)) (λ i below.
     bit_at-element w k (bit_xor a b) i below ∙ bit_at_xor a b (k * w + i)
     ∙ sym (bit_at_xor (element w k a) (element w k b) i ∙ ap₂ (λ x y. (x + y) % 2) (bit_at-element w k a i below) (bit_at-element w k b i below)))
+
+-- and of what two words share
+pub element-and : (w k a b : ℕ) → element w k (bit_and a b) ≡ bit_and (element w k a) (element w k b)
+element-and w k a b =
+    same_from_bits_below w _ _ (element-lt w k (bit_and a b)) (let l = and_le_r (element w k a) (element w k b) in let e = element-lt w k b in omega (arith, l, e)) (λ i below.
+    bit_at-element w k (bit_and a b) i below ∙ bit_at_and a b (k * w + i)
+    ∙ sym (bit_at_and (element w k a) (element w k b) i ∙ ap₂ min (bit_at-element w k a i below) (bit_at-element w k b i below)))
 
 one_bit : (b j : ℕ) → b < 2 → 0 < j → bit_at b j ≡ 0
 one_bit b j small some = bit_at_above b 1 j small some

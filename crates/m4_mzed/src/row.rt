@@ -11,7 +11,7 @@ ghost use Rattle.m4_mzd.specs.Rows.{sum_from};
 ghost use Rattle.m4_mzed.specs.Packed.{unpacked, IsPackedRow};
 ghost use Rattle.m4_mzed.specs.Rows.{packed_multiples};
 
-use crate::word::{factors, ones};
+use crate::word::{factors, ones, patterns};
 use m4_bits::{product_of, words_for};
 use m4_field::Field;
 use m4_mzd::{Win, WinMut};
@@ -76,7 +76,7 @@ fn add_products(
     }
 }
 
-/// The same with the products of `N` factors, as many as an element has bits at most.
+/// The same for elements of `N` bits.
 fn add_by<const N: usize>(
     f: &Field,
     cols: u32,
@@ -87,8 +87,7 @@ fn add_by<const N: usize>(
     x: u32,
     first: u32,
 )
-    requires enough { (the_field f.now).degree ≤ N }
-    requires few { N ≤ 16 }
+    requires elements { N ≡ width (the_field f.now) }
     requires in_rows { r < bits.old.rows }
     requires in_from { s < (shown from.now).rows }
     requires wide { bits.old.cols ≡ cols * width (the_field f.now) }
@@ -100,7 +99,8 @@ fn add_by<const N: usize>(
 {
     let _from = from.rows();
     let low = ones(f.width());
-    bits.add_products(r, from, s, first, low, &factors::<N>(f, x));
+    let list = patterns(low, &factors::<N>(f, x));
+    bits.add_products(r, from, s, first, low, &list);
 }
 
 /// Adds `d` to element `c` of row `r`.
@@ -137,10 +137,9 @@ pub(crate) fn scale(f: &Field, cols: u32, bits: &mut WinMut, r: u32, x: u32)
     }
 }
 
-/// The same with the products of `N` factors, as many as an element has bits at most.
+/// The same for elements of `N` bits.
 fn scale_by<const N: usize>(f: &Field, cols: u32, bits: &mut WinMut, r: u32, x: u32)
-    requires enough { (the_field f.now).degree ≤ N }
-    requires few { N ≤ 16 }
+    requires elements { N ≡ width (the_field f.now) }
     requires in_rows { r < bits.old.rows }
     requires wide { bits.old.cols ≡ cols * width (the_field f.now) }
     requires source { IsPackedRow (the_field f.now) cols (row (content bits.old) r) }
@@ -149,7 +148,7 @@ fn scale_by<const N: usize>(f: &Field, cols: u32, bits: &mut WinMut, r: u32, x: 
 {
     let _rows = bits.rows();
     let low = ones(f.width());
-    let list = factors::<N>(f, x);
+    let list = patterns(low, &factors::<N>(f, x));
     for w in 0..words_for(bits.cols()) {
         let product = product_of(bits.word(r, w), low, &list);
         bits.set_word(r, w, product);

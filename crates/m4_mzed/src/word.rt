@@ -1,6 +1,6 @@
 //! The elements of a word, multiplied by one.
 
-ghost use Rattle.std.specs.Prelude.{◌≡◌, ℕ, ◌/◌, ◌^◌, ◌<◌, ◌≤◌, ◌==◌, ◌||◌, IsTrue, slice_index};
+ghost use Rattle.std.specs.Prelude.{◌≡◌, ℕ, ◌*◌, ◌/◌, ◌%◌, ◌^◌, ◌<◌, ◌≤◌, ◌==◌, ◌||◌, IsTrue, slice_index};
 ghost use Rattle.m4_model.specs.Field.{mul, width};
 ghost use Rattle.m4_field.specs.Fields.{the_field};
 ghost use Rattle.m4_mzed.specs.Words.{element, AreElements};
@@ -45,11 +45,23 @@ pub(crate) fn factors<const N: usize>(f: &Field, x: u32) -> [u64; N]
     list
 }
 
+/// For each factor the word with the factor in each place where `low` has a one at its lowest bit.
+#[inline]
+pub(crate) fn patterns<const N: usize>(low: u64, factors: &[u64; N]) -> [u64; N]
+    ensures { (i : ℕ) → i < N → slice_index result i ≡ low * slice_index factors.now i % 2 ^ 64 }
+{
+    let mut list = [0u64; N];
+    for i in 0..N {
+        list[i] = low.wrapping_mul(factors[i]);
+    }
+    list
+}
+
 /// Multiplies each of the elements of the word by `x`. `W` is the width of the field's elements. As in the word, the bits of
 /// each place of the answer that an element doesn't use are zero.
 ///
-/// For each bit of the elements, the digits there, spread by a mask, times one factor are added: a digit times a number that
-/// fits the place carries nothing into the next.
+/// For each bit of the elements one factor is added in the places of those that have a one there: a digit fills its place, and
+/// what is filled takes the factor from a word that has it in each place.
 #[inline]
 pub fn mul_word<const W: usize>(f: &Field, word: u64, x: u32) -> u64
     requires wide { W ≡ width (the_field f.now) }
@@ -58,5 +70,6 @@ pub fn mul_word<const W: usize>(f: &Field, word: u64, x: u32) -> u64
     ensures products { (k : ℕ) → k < 64 / W → element W k result ≡ mul (the_field f.now) (element W k word) x }
     ensures elements { AreElements (the_field f.now) W result }
 {
-    product_of(word, ones(f.width()), &factors::<W>(f, x))
+    let low = ones(f.width());
+    product_of(word, low, &patterns(low, &factors::<W>(f, x)))
 }

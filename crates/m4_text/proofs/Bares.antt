@@ -8,7 +8,7 @@ use Rattle.m4_model.specs.Field.{gf2}
 use Rattle.m4_model.specs.Matrix.{Matrix, zero_matrix, table}
 use Rattle.m4_model.proofs.FieldLemmas.{gf2_field}
 use Rattle.m4_model.specs.Bare.{ReadsBare, IsBareFile, IsBareInLimits, IsBadBare, IsLargeBare, RefusalBare}
-use Rattle.m4_model.specs.declared.choices.Form.TheVariants.{Bare}
+use Rattle.m4_model.specs.declared.form.Form.TheVariants.{Bare}
 use Rattle.m4_model.proofs.MatrixLemmas.{IsMatrix-matrix_of}
 use Rattle.m4_text.specs.Refused.{IsRefusalIn}
 use Rattle.std.specs.Option.{is_some}

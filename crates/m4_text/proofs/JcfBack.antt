@@ -13,9 +13,9 @@ use Rattle.std.proofs.lemmas.Str.Parse.{IsNumeralModel, numerals_by_value, tells
 use Rattle.m4_model.specs.Matrix.{Matrix, at}
 use Rattle.m4_model.specs.Text.{InLimits}
 use Rattle.m4_model.specs.Jcf.{Token, tokens, tokens_from, is_white, number, Entry, entry, rows_begun, HasJcfHeader, ReadsJcf, nonzero_columns, line_of_columns, nonzeros, jcf_header, jcf_text, CanBeJcf}
-use Rattle.m4_model.specs.declared.choices.Form.{Form}
+use Rattle.m4_model.specs.declared.form.Form.{Form}
 use Rattle.m4_model.specs.Texts.{can_hold, text_as, ReadsAs}
-use Rattle.m4_model.specs.declared.choices.Form.TheVariants.{Headed, Bare, Jcf, Hex}
+use Rattle.m4_model.specs.declared.form.Form.TheVariants.{Headed, Bare, Jcf, Hex}
 use Rattle.m4_text.proofs.Numbers.{AreDigits, AreDigits-decimal}
 use Rattle.m4_text.proofs.Columns.{few_columns}
 use Rattle.m4_text.proofs.Once.{small}

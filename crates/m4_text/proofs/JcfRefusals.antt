@@ -11,7 +11,7 @@ use Rattle.m4_model.proofs.MatrixLemmas.{at-table}
 use Rattle.m4_text.specs.declared.fault.TextFault.{TextFault}
 use Rattle.m4_text.specs.declared.fault.TextFault.TheVariants.{Bad, Limit, NoMemory}
 use Rattle.m4_text.specs.Refused.{IsRefusedIn, IsRefusalIn}
-use Rattle.m4_model.specs.declared.choices.Form.TheVariants.{Jcf}
+use Rattle.m4_model.specs.declared.form.Form.TheVariants.{Jcf}
 use Rattle.m4_text.specs.Tokens.{judged_from, IsBadNumber, IsCutHeader, IsHeaderFault, IsHeaderBefore, ReadsEntries, RefusesEntry}
 
 most_is : most_bytes ≡ 2 ^ 29

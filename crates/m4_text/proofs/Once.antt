@@ -7,9 +7,9 @@ use Rattle.m4_model.specs.Matrix.{Matrix, IsMatrix, at}
 use Rattle.m4_model.specs.Text.{IsLongest, Begins, Reads, Refusal, Fault, BadAt, PastLimit, IsWithinLimits, IsTextOf, header, line}
 use Rattle.m4_model.specs.Bare.{ReadsBare, RefusalBare, IsBareInLimits, IsBareFile}
 use Rattle.m4_model.specs.Jcf.{Token, Entry, entry, tokens, judged, HasJcfHeader, IsJcf, BeginsJcf, IsFirstRefused, HasEntry, ReadsJcf, RefusalJcf, PassesLimit}
-use Rattle.m4_model.specs.declared.choices.Form.{Form}
+use Rattle.m4_model.specs.declared.form.Form.{Form}
 use Rattle.m4_model.specs.Texts.{ReadsAs, RefusalAs}
-use Rattle.m4_model.specs.declared.choices.Form.TheVariants.{Headed, Bare, Jcf, Hex}
+use Rattle.m4_model.specs.declared.form.Form.TheVariants.{Headed, Bare, Jcf, Hex}
 use Rattle.m4_model.proofs.MatrixLemmas.{same_parts, same_matrix}
 use Rattle.m4_text.specs.Place.{IsLine}
 use Rattle.m4_text.proofs.Fronts.{same_parts as same_fronts}

@@ -3,9 +3,9 @@ use Rattle.std.proofs.Common.{◌≡◌, ℕ, ◌^◌, ◌≤◌, List, [], ◌+
 use Rattle.std.proofs.lemmas.Result.{MatchResult-weaker}
 use Rattle.m4_model.specs.Matrix.{Matrix}
 use Rattle.m4_model.specs.Text.{BadAt, PastLimit}
-use Rattle.m4_model.specs.declared.choices.Form.{Form}
+use Rattle.m4_model.specs.declared.form.Form.{Form}
 use Rattle.m4_model.specs.Texts.{RefusalAs, ReadsAs}
-use Rattle.m4_model.specs.declared.choices.Form.TheVariants.{Headed, Bare, Jcf, Hex}
+use Rattle.m4_model.specs.declared.form.Form.TheVariants.{Headed, Bare, Jcf, Hex}
 use Rattle.m4_text.specs.declared.fault.TextFault.{TextFault}
 use Rattle.m4_text.specs.declared.fault.TextFault.TheVariants.{Bad, Limit, NoMemory}
 use Rattle.m4_text.specs.Refused.{IsRefusedIn}

@@ -1,7 +1,7 @@
 -- A reader that is fed a text in pieces: what it is, and the bytes for which it stands.
 use Rattle.std.specs.Prelude.{◌≡◌, ℕ, ◌^◌, ◌≤◌, List, ◌++◌, length, Option, MatchOption}
 use Rattle.m4_model.specs.Text.{BadAt, PastLimit}
-use Rattle.m4_model.specs.declared.choices.Form.{Form}
+use Rattle.m4_model.specs.declared.form.Form.{Form}
 use Rattle.m4_model.specs.Texts.{RefusalAs}
 use Rattle.m4_text.specs.declared.fault.TextFault.{TextFault}
 use Rattle.m4_text.specs.declared.fault.TextFault.TheVariants.{Bad, Limit, NoMemory}

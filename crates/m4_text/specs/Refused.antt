@@ -1,9 +1,9 @@
 -- Why a text is refused, of the bytes and of every file that begins with them.
 use Rattle.std.specs.Prelude.{◌≡◌, ℕ, ◌^◌, ◌<◌, ◌⊎◌, List, [], ◌++◌, length}
 use Rattle.m4_model.specs.Text.{Fault, BadAt, PastLimit}
-use Rattle.m4_model.specs.declared.choices.Form.{Form}
+use Rattle.m4_model.specs.declared.form.Form.{Form}
 use Rattle.m4_model.specs.Texts.{RefusalAs}
-use Rattle.m4_model.specs.declared.choices.Form.TheVariants.{Headed}
+use Rattle.m4_model.specs.declared.form.Form.TheVariants.{Headed}
 use Rattle.m4_text.specs.declared.fault.TextFault.{TextFault}
 use Rattle.m4_text.specs.declared.fault.TextFault.TheVariants.{Bad, Limit, NoMemory}
 

@@ -1,7 +1,7 @@
 ghost use Rattle.std.specs.Prelude.{◌≡◌, ◌≤◌, ◌<◌, ◌↔◌, [], ◌∷◌, length, IsTrue, IfOk, IfErr, MatchResult};
 ghost use Rattle.m4_model.specs.Text.{Begins};
 ghost use Rattle.m4_model.specs.Bare.{ReadsBare};
-ghost use Rattle.m4_model.specs.declared.choices.Form.TheVariants.{Bare};
+ghost use Rattle.m4_model.specs.declared.form.Form.TheVariants.{Bare};
 ghost use Rattle.m4_text.specs.Place.{IsLine, HasLine};
 ghost use Rattle.m4_text.specs.Reading.{AreRowsToRead};
 ghost use Rattle.m4_text.specs.Refused.{IsRefusedIn};

@@ -1,6 +1,6 @@
 ghost use Rattle.std.specs.Prelude.{◌≡◌, ◌≤◌, false, length, MatchOption, MatchResult, OnOk, IfOk, IfErr};
 ghost use Rattle.m4_model.specs.Jcf.{ReadsJcf};
-ghost use Rattle.m4_model.specs.declared.choices.Form.TheVariants.{Jcf};
+ghost use Rattle.m4_model.specs.declared.form.Form.TheVariants.{Jcf};
 ghost use Rattle.m4_text.specs.Refused.{IsRefusedIn};
 ghost use Rattle.m4_text.specs.Tokens.{IsNextNumber, LacksNumber, IsHeaderBefore, IsHeaderFault, IsCell, LacksCell, ReadsEntries, RefusesEntry};
 

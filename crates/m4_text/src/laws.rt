@@ -1,7 +1,7 @@
 ghost use Rattle.std.specs.Prelude.{◌≡◌, ℕ, ◌≤◌, ◌⊎◌, List, length};
 ghost use Rattle.m4_model.specs.Matrix.{Matrix};
 ghost use Rattle.m4_model.specs.Text.{text, Reads, Refusal, Fault, InLimits};
-ghost use Rattle.m4_model.specs.declared.choices.Form.{Form};
+ghost use Rattle.m4_model.specs.declared.form.Form.{Form};
 ghost use Rattle.m4_model.specs.Texts.{can_hold, text_as, ReadsAs, RefusalAs};
 
 use crate::limits::MOST_BYTES;

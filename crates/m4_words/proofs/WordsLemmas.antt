@@ -7,9 +7,9 @@ use Rattle.std.proofs.lemmas.List.{take_all, length-drop, drop_more, drop_all, g
 use Rattle.std.proofs.lemmas.Bool.{ltb-true, lt-ltb}
 use Rattle.std.proofs.lemmas.Slice.Eq.{bytes_eq-Decides}
 use Rattle.std.proofs.lemmas.Fmt.{decimal_is_IsNumeral}
-use Rattle.m4_model.specs.declared.command.Command.{Command}
-use Rattle.m4_model.specs.declared.command.Kind.{Kind}
-use Rattle.m4_model.specs.Words.{Understood, understand, and_word, number_of, job, job_of, job_behind, command_named, begun}
+use Rattle.m4_outcome.specs.declared.command.Command.{Command}
+use Rattle.m4_outcome.specs.declared.command.Kind.{Kind}
+use Rattle.m4_outcome.specs.Words.{Understood, understand, and_word, number_of, job, job_of, job_behind, command_named, begun}
 use Rattle.m4_words.specs.Texts.{texts}
 
 -- a word in decimal

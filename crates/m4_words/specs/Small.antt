@@ -1,8 +1,8 @@
 -- Numbers that an option chooses.
 use Rattle.std.specs.Prelude.{ℕ, ◌≤◌}
 use Rattle.std.specs.Option.{ForSome}
-use Rattle.m4_model.specs.declared.choices.Choices.{Choices}
-use Rattle.m4_model.specs.declared.choices.TheConstants.{LEAST_CUTOFF, MOST_CUTOFF}
+use Rattle.m4_outcome.specs.declared.choices.Choices.{Choices}
+use Rattle.m4_model.specs.declared.algo.TheConstants.{LEAST_CUTOFF, MOST_CUTOFF}
 
 -- It lies between 1 and 8.
 pub record IsSmall (n : ℕ) : Type 0 where

@@ -1,8 +1,8 @@
 -- What the words tell that have been read, as the definitions see it.
 use Rattle.std.specs.Prelude.{◌+◌, ◌≤◌, Bool, true, false, length, map, count_by}
-use Rattle.m4_model.specs.declared.command.Kind.{Kind}
-use Rattle.m4_model.specs.declared.command.Kind.TheVariants.{FileName, Number}
-use Rattle.m4_model.specs.Words.{Understood}
+use Rattle.m4_outcome.specs.declared.command.Kind.{Kind}
+use Rattle.m4_outcome.specs.declared.command.Kind.TheVariants.{FileName, Number}
+use Rattle.m4_outcome.specs.Words.{Understood}
 use Rattle.m4_words.specs.Small.{AreSmall}
 use Rattle.m4_words.specs.declared.told.Told.{Told}
 

@@ -1,9 +1,9 @@
 //! Commands, and what stands in the places behind the word that names them.
 
 ghost use Rattle.std.specs.Prelude.{◌≡◌};
-ghost use Rattle.m4_model.specs.Words.{command_named, kinds_of, with_numbers};
+ghost use Rattle.m4_outcome.specs.Words.{command_named, kinds_of, with_numbers};
 
-use m4_model::{Command, Kind};
+use m4_outcome::{Command, Kind};
 
 /// The command that a word names, with zeros in the places of its numbers.
 pub(crate) fn command_named(word: &str) -> Option<Command>

@@ -4,7 +4,7 @@ ghost use Rattle.std.specs.Option.{ForSome};
 ghost use Rattle.m4_words.specs.Small.{IsCutoff, IsSmall};
 
 use arrayvec::ArrayVec;
-use m4_model::{Choices, Command};
+use m4_outcome::{Choices, Command};
 
 /// What the words ask for: a command, the names of its files in order, and what the options choose.
 #[derive(Debug, Drop)]

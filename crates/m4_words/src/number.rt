@@ -1,7 +1,7 @@
 //! Numbers in words and options.
 
 ghost use Rattle.std.specs.Prelude.{◌≡◌, ◌≤◌, ◌↔◌, IfSome, IsTrue, decimal};
-ghost use Rattle.m4_model.specs.Words.{number_between, number_of};
+ghost use Rattle.m4_outcome.specs.Words.{number_between, number_of};
 
 use itoa::Buffer;
 

@@ -1,11 +1,12 @@
 //! Options by their names and values.
 
 ghost use Rattle.std.specs.Prelude.{◌≡◌, IfSome};
-ghost use Rattle.m4_model.specs.Words.{algo_named, answer_form_named, form_named, once, with_option};
+ghost use Rattle.m4_outcome.specs.Words.{algo_named, answer_form_named, form_named, once, with_option};
 ghost use Rattle.m4_words.specs.Small.{AreSmall};
 
 use crate::number::number_between;
-use m4_model::{Algo, Choices, Form, LEAST_CUTOFF, MOST_CUTOFF};
+use m4_model::{Algo, Form, LEAST_CUTOFF, MOST_CUTOFF};
+use m4_outcome::Choices;
 
 /// The choices with one more option, of this name and this value. There is none of another name, with another value, or
 /// of a name that was given before.

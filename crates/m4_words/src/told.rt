@@ -1,14 +1,14 @@
 //! What the words tell that have been read.
 
 ghost use Rattle.std.specs.Prelude.{◌≡◌, Some, None, OnSome, IfNone};
-ghost use Rattle.m4_model.specs.Words.{begun, and_word, and_option, and_operand};
+ghost use Rattle.m4_outcome.specs.Words.{begun, and_word, and_option, and_operand};
 ghost use Rattle.m4_words.specs.Told.{understood, IsSound};
 
 use crate::command::kinds_of;
 use crate::number::number_of;
 use crate::options::with_option;
 use arrayvec::ArrayVec;
-use m4_model::{Choices, Command, Kind};
+use m4_outcome::{Choices, Command, Kind};
 
 /// What the words tell that have been read: the places that are still wanted, the numbers and the names of files in those
 /// that are filled, and what the options choose.

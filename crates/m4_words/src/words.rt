@@ -1,7 +1,7 @@
 //! The words of a command line, read from left to right.
 
 ghost use Rattle.std.specs.Prelude.{◌≡◌, ◌+◌, ◌^◌, ◌<◌, Ok, Err, IfOk, IfErr};
-ghost use Rattle.m4_model.specs.Words.{job, understand, begun};
+ghost use Rattle.m4_outcome.specs.Words.{job, understand, begun};
 ghost use Rattle.m4_words.specs.Job.{job_told};
 ghost use Rattle.m4_words.specs.Texts.{texts};
 ghost use Rattle.m4_words.specs.Told.{understood, IsSound};
@@ -9,7 +9,7 @@ ghost use Rattle.m4_words.specs.Told.{understood, IsSound};
 use crate::command::{command_named, with_numbers};
 use crate::job::Job;
 use crate::told::Told;
-use m4_model::Command;
+use m4_outcome::Command;
 
 /// The word of this number, counted from 1, is refused. It is one past the last word where a word is missing.
 #[derive(Clone, Copy, Debug, PartialEq, Eq)]

@@ -9,13 +9,13 @@ use Rattle.m4_bits.proofs.products.add_products.Goals as goal
 pub returns-then-place-dst-clause-added : goal.returns-then-place-dst-clause-added
 returns-then-place-dst-clause-added g c = λ k from.
     let none : length c.args.dst.now ≤ k / 64 = omega (arith, from, c.if-place-dst.true) in
-    let sources = masked (row_products g.row.N c.args.low c.args.factors.now c.args.src.now c.args.last) c.args.last in
+    let sources = masked (row_products g.row.N c.args.low c.args.patterns.now c.args.src.now c.args.last) c.args.last in
     bit_past c.args.dst.now k none
     ∙ sym (bit_past (row_sum c.args.dst.now sources) k (omega (arith, length-row_sum c.args.dst.now sources, none)))
 
 pub returns-clause-added : goal.returns-clause-added
 returns-clause-added g c = λ k from.
-    let h : Made g.row.N c.args.low c.args.factors.now c.args.dst.now c.args.src.now c.args.first c.args.last c.add_whole_words.new.dst c.merge.result c.merge-2.result =
+    let h : Made g.row.N c.args.low c.args.patterns.now c.args.dst.now c.args.src.now c.args.first c.args.last c.add_whole_words.new.dst c.merge.result c.merge-2.result =
     record {
       same = c.requires.same;
       within = c.if-place-dst.false;
@@ -25,11 +25,11 @@ returns-clause-added g c = λ k from.
       tail_is = rw c.product_of.ensures at c.merge.ensures;
       head_is = c.merge-2.ensures;
     } in
-    bit-products_added g.row.N c.args.low c.args.factors.now c.args.dst.now c.args.src.now c.args.first c.args.last c.add_whole_words.new.dst c.merge.result c.merge-2.result h k from
+    bit-products_added g.row.N c.args.low c.args.patterns.now c.args.dst.now c.args.src.now c.args.first c.args.last c.add_whole_words.new.dst c.merge.result c.merge-2.result h k from
 
 pub returns-clause-kept : goal.returns-clause-kept
 returns-clause-kept g c = λ k before.
-    let h : Made g.row.N c.args.low c.args.factors.now c.args.dst.now c.args.src.now c.args.first c.args.last c.add_whole_words.new.dst c.merge.result c.merge-2.result =
+    let h : Made g.row.N c.args.low c.args.patterns.now c.args.dst.now c.args.src.now c.args.first c.args.last c.add_whole_words.new.dst c.merge.result c.merge-2.result =
     record {
       same = c.requires.same;
       within = c.if-place-dst.false;
@@ -39,4 +39,4 @@ returns-clause-kept g c = λ k before.
       tail_is = rw c.product_of.ensures at c.merge.ensures;
       head_is = c.merge-2.ensures;
     } in
-    bit-products_kept g.row.N c.args.low c.args.factors.now c.args.dst.now c.args.src.now c.args.first c.args.last c.add_whole_words.new.dst c.merge.result c.merge-2.result h k before
+    bit-products_kept g.row.N c.args.low c.args.patterns.now c.args.dst.now c.args.src.now c.args.first c.args.last c.add_whole_words.new.dst c.merge.result c.merge-2.result h k before

@@ -1,6 +1,7 @@
 use Rattle.std.proofs.Common.{◌≡◌, ◌++◌, ◌∙◌, List, ℕ, ap, sym}
 use Rattle.std.proofs.lemmas.Result.{err_from_is_err_and}
-use Rattle.m4_model.specs.Outcome.{numbers_line, rank_line}
+use Rattle.m4_model.specs.NumberLines.{numbers_line}
+use Rattle.m4_outcome.specs.Outcome.{rank_line}
 use Rattle.m4_cmd.specs.Factors.{rows_line}
 use Rattle.m4_cmd.proofs.PartLemmas.{part_stops, part_follows}
 use Rattle.m4_cmd.proofs.factors_text.write_heading.Goals as goal

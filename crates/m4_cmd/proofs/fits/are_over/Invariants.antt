@@ -1,6 +1,6 @@
 -- The matrices so far are over the field.
 use Rattle.std.proofs.Common.{take}
-use Rattle.m4_model.specs.Outcome.{AreOver}
+use Rattle.m4_outcome.specs.Outcome.{AreOver}
 use Rattle.m4_field.specs.Fields.{the_field}
 use Rattle.m4_cmd.proofs.fits.are_over.Given as goal
 

@@ -1,6 +1,6 @@
 -- None of the files before this one has the name.
 use Rattle.std.proofs.Common.{◌≡◌, drop}
-use Rattle.m4_model.specs.Outcome.{bytes_of}
+use Rattle.m4_model.specs.Stock.{bytes_of}
 use Rattle.m4_io.specs.Memory.{stock_of}
 use Rattle.m4_io.proofs.mem_shelf.number_of.Given as goal
 

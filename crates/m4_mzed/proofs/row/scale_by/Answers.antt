@@ -16,13 +16,13 @@ loop-w-preserved g c =
     let s = c.rows-rows.ensures.shape in
     let elements = word_elements F c.args.f.now.carried c.args.cols c.args.x W c.loop-w.bits c.args.r c.loop-w.w c.word.result c.requires.source (row_bits W c.args.r s c.requires.in_rows)
     (s.matrix.width c.args.r c.requires.in_rows) c.loop-w.invariant.2 c.loop-w.invariant.1 c.word.ensures in
-    let factors = are_factors F c.width.ensures.field g.row.N c.ones-low.result c.width.result c.args.x c.factors-list.result c.requires.enough c.ones-low.ensures.word c.width.ensures.width
-    c.ones-low.ensures.ones c.factors-list.ensures.powers c.factors-list.ensures.elements c.factors-list.ensures.rest in
+    let factors = are_factors F c.width.ensures.field g.row.N c.ones-low.result c.width.result c.args.x c.factors.result c.patterns-list.result c.requires.elements c.width.ensures.width
+    c.ones-low.ensures.word c.ones-low.ensures.ones c.factors.ensures.powers c.factors.ensures.elements c.factors.ensures.rest c.patterns-list.ensures in
     scaled_more F c.args.f.now.carried c.args.cols c.args.x W c.loop-w.bits c.args.r c.loop-w.w c.word.result c.requires.source (row_bits W c.args.r s c.requires.in_rows)
     (s.matrix.width c.args.r c.requires.in_rows) c.loop-w.invariant.2 c.loop-w.invariant.1 c.word.ensures c.set_word.new.self c.product_of-product.result
     (let h = s.matrix.height in let b = c.requires.in_rows in omega (arith, h, b)) c.loop-w.invariant.0
     (λ k below. ap (element (width F) k) c.product_of-product.ensures
-    ∙ products_element F g.row.N c.ones-low.result c.args.x c.factors-list.result factors c.word.result k below (elements k below)) c.set_word.ensures
+    ∙ products_element F g.row.N c.ones-low.result c.args.x c.factors.result c.patterns-list.result factors c.word.result k below (elements k below)) c.set_word.ensures
 
 pub returns : goal.returns
 returns g c =

@@ -3,7 +3,7 @@ use Rattle.std.proofs.lemmas.Bool.{eqb-true, iff_false}
 use Rattle.std.proofs.lemmas.List.{nil_from_length}
 use Rattle.m4_model.specs.Bare.{ReadsBare}
 use Rattle.m4_model.specs.Text.{BadAt}
-use Rattle.m4_model.specs.declared.choices.Form.TheVariants.{Bare}
+use Rattle.m4_model.specs.declared.form.Form.TheVariants.{Bare}
 use Rattle.m4_text.specs.Refused.{IsRefusalIn}
 use Rattle.m4_text.proofs.Bares.{no_lines, refused_more, refused_next, refused_line}
 use Rattle.m4_text.proofs.bare.read_bare.Goals as goal

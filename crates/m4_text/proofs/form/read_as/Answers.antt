@@ -2,7 +2,7 @@
 use Rattle.std.proofs.Common.{IfErr, sym, subst}
 use Rattle.m4_model.specs.Text.{PastLimit}
 use Rattle.m4_model.specs.Texts.{RefusalAs}
-use Rattle.m4_model.specs.declared.choices.Form.TheVariants.{Headed, Bare, Jcf, Hex}
+use Rattle.m4_model.specs.declared.form.Form.TheVariants.{Headed, Bare, Jcf, Hex}
 use Rattle.m4_text.specs.Refused.{IsRefusedIn}
 use Rattle.m4_text.proofs.Readers.{limit_refused, hex_result}
 use Rattle.m4_text.proofs.form.read_as.Goals as goal

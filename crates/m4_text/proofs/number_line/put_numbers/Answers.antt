@@ -1,6 +1,6 @@
 use Rattle.std.proofs.Common.{◌+◌, ◌++◌, ℕ, List, codes, decimal, drop, Ok}
 use Rattle.std.proofs.lemmas.Result.{err_from_is_err_and}
-use Rattle.m4_model.specs.Outcome.{numbers_text}
+use Rattle.m4_model.specs.NumberLines.{numbers_text}
 use Rattle.m4_text.proofs.Putting.{piece_put, piece_fails, more_put, more_left}
 use Rattle.m4_text.proofs.number_line.put_numbers.Goals as goal
 

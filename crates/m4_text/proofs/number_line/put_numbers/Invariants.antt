@@ -1,5 +1,5 @@
 use Rattle.std.proofs.Common.{take, Ok}
-use Rattle.m4_model.specs.Outcome.{numbers_text}
+use Rattle.m4_model.specs.NumberLines.{numbers_text}
 use Rattle.m4_text.specs.Pending.{Puts}
 use Rattle.m4_text.proofs.number_line.put_numbers.Given as goal
 

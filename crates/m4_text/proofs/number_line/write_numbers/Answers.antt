@@ -1,6 +1,6 @@
 use Rattle.std.proofs.Common.{◌≡◌, List, ℕ, [], ◌++◌, codes, append-nil, append_assoc, ap, sym, refl, ◌∙◌, Ok}
 use Rattle.std.proofs.lemmas.Result.{err_from_is_err_and}
-use Rattle.m4_model.specs.Outcome.{numbers_text, numbers_line}
+use Rattle.m4_model.specs.NumberLines.{numbers_text, numbers_line}
 use Rattle.m4_text.proofs.Putting.{piece_put, put_fails, put_ends, put_end_fails}
 use Rattle.m4_text.proofs.number_line.write_numbers.Goals as goal
 

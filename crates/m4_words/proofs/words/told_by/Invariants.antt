@@ -1,5 +1,5 @@
 use Rattle.std.proofs.Common.{◌≡◌, ◌+◌, drop}
-use Rattle.m4_model.specs.Words.{understand, begun}
+use Rattle.m4_outcome.specs.Words.{understand, begun}
 use Rattle.m4_words.specs.Texts.{texts}
 use Rattle.m4_words.specs.Told.{understood, IsSound}
 use Rattle.m4_words.proofs.words.told_by.Given as goal

@@ -18,4 +18,4 @@ returns g c = λ ys are.
     let mine = holds_own v cols c.args.r c.row_mut.result.now w c.self.view_is c.self.invariant c.requires.in_rows c.row_mut.ensures.words in
     row_written v cols c.args.r c.row_mut.result.now c.add_products.new.dst _ w c.self.view_is c.self.invariant c.requires.in_rows c.row_mut.ensures.words
     (wrote_tail cols c.mask-last.result c.args.c c.row_mut.result.now _ c.add_products.new.dst _ _ c.mask-last.ensures c.add_products.ensures.long within c.add_products.ensures.added c.add_products.ensures.kept mine
-    (holds_products cols c.mask-last.result g.row.N c.args.low c.args.factors.now c.row-source.result.now _ ys c.mask-last.ensures theirs are))
+    (holds_products cols c.mask-last.result g.row.N c.args.low c.args.patterns.now c.row-source.result.now _ ys c.mask-last.ensures theirs are))

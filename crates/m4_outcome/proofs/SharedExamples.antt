@@ -4,8 +4,8 @@ use Rattle.std.proofs.lemmas.Bool.{eqb-false, or_cases}
 use Rattle.std.proofs.lemmas.List.Elements.{All-nil, All-cons}
 use Rattle.m4_model.specs.Field.{Field, gf2, IsExtension, IsIrreducible, IsElement, clmul, mul, sum_below, bits_within, rem_within}
 use Rattle.m4_model.specs.Matrix.{Matrix, HasShape, table}
-use Rattle.m4_model.specs.Outcome.{ShareField, HasAnswer, OneMatrix}
-use Rattle.m4_model.specs.declared.command.Command.TheVariants.{Mul, Inverse}
+use Rattle.m4_outcome.specs.Outcome.{ShareField, HasAnswer, OneMatrix}
+use Rattle.m4_outcome.specs.declared.command.Command.TheVariants.{Mul, Inverse}
 use Rattle.m4_model.proofs.ExampleTests.{every, every_at}
 
 -- the fields of four elements and of sixteen, the second by two polynomials

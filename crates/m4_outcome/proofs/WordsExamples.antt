@@ -1,12 +1,12 @@
 -- Words that are a job, and words that are none, with the number of the first that is refused.
 use Rattle.std.proofs.Common.{◌≡◌, ℕ, List, [], ◌∷◌, refl, Option, Some, None, Result, Ok, Err, codes}
 use Rattle.std.specs.Fmt.{digits}
-use Rattle.m4_model.specs.declared.choices.Algo.TheVariants.{Strassen}
-use Rattle.m4_model.specs.declared.choices.Form.{Form}
-use Rattle.m4_model.specs.declared.choices.Form.TheVariants.{Headed, Bare, Jcf, Hex}
-use Rattle.m4_model.specs.declared.command.Command.{Command}
-use Rattle.m4_model.specs.declared.command.Command.TheVariants.{Mul, Addmul, Sub, Convert, Ple, Pluq}
-use Rattle.m4_model.specs.Words.{Job, job, understand}
+use Rattle.m4_model.specs.declared.algo.Algo.TheVariants.{Strassen}
+use Rattle.m4_model.specs.declared.form.Form.{Form}
+use Rattle.m4_model.specs.declared.form.Form.TheVariants.{Headed, Bare, Jcf, Hex}
+use Rattle.m4_outcome.specs.declared.command.Command.{Command}
+use Rattle.m4_outcome.specs.declared.command.Command.TheVariants.{Mul, Addmul, Sub, Convert, Ple, Pluq}
+use Rattle.m4_outcome.specs.Words.{Job, job, understand}
 
 -- the job of a command on these files, with these forms
 asks : Command → List (List ℕ) → Option Form → Option Form → Result Job ℕ

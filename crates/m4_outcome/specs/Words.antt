@@ -3,16 +3,16 @@ use Rattle.std.specs.Prelude.{◌==◌, ℕ, suc, ◌^◌, List, [], ◌∷◌, 
 use Rattle.std.specs.Option.{option_and_then}
 use Rattle.std.specs.List.{starts_with, before_first, after_first}
 use Rattle.std.specs.Str.Parse.{digits_value}
-use Rattle.m4_model.specs.declared.command.Command.{Command}
-use Rattle.m4_model.specs.declared.command.Command.TheVariants.{Mul, Addmul, Add, Transpose, Stack, Augment, Sub, Convert, Rank, Echelon, Inverse, Solve, Kernel, Ple, Pluq}
-use Rattle.m4_model.specs.declared.command.Kind.{Kind}
-use Rattle.m4_model.specs.declared.command.Kind.TheVariants.{FileName, Number}
-use Rattle.m4_model.specs.declared.choices.Algo.{Algo}
-use Rattle.m4_model.specs.declared.choices.Algo.TheVariants.{Plain, Table, Strassen}
-use Rattle.m4_model.specs.declared.choices.Form.{Form}
-use Rattle.m4_model.specs.declared.choices.TheConstants.{LEAST_CUTOFF, MOST_CUTOFF}
-use Rattle.m4_model.specs.declared.choices.Form.TheVariants.{Headed, Bare, Jcf, Hex}
-use Rattle.m4_model.specs.declared.choices.Choices.{Choices}
+use Rattle.m4_outcome.specs.declared.command.Command.{Command}
+use Rattle.m4_outcome.specs.declared.command.Command.TheVariants.{Mul, Addmul, Add, Transpose, Stack, Augment, Sub, Convert, Rank, Echelon, Inverse, Solve, Kernel, Ple, Pluq}
+use Rattle.m4_outcome.specs.declared.command.Kind.{Kind}
+use Rattle.m4_outcome.specs.declared.command.Kind.TheVariants.{FileName, Number}
+use Rattle.m4_model.specs.declared.algo.Algo.{Algo}
+use Rattle.m4_model.specs.declared.algo.Algo.TheVariants.{Plain, Table, Strassen}
+use Rattle.m4_model.specs.declared.form.Form.{Form}
+use Rattle.m4_model.specs.declared.algo.TheConstants.{LEAST_CUTOFF, MOST_CUTOFF}
+use Rattle.m4_model.specs.declared.form.Form.TheVariants.{Headed, Bare, Jcf, Hex}
+use Rattle.m4_outcome.specs.declared.choices.Choices.{Choices}
 
 -- A command, the names of its files in order, and what the options choose.
 pub record Job : Type 0 where

@@ -2,27 +2,21 @@
 use Rattle.std.specs.Prelude.{◌≡◌, ℕ, ◌+◌, ◌-◌, ◌*◌, ◌%◌, ◌≤◌, ◌⊎◌, List, [], ◌∷◌, ◌++◌, length, All, Option, Some, None, option_map, flat_map, find, bytes_eq, Ok, Err, codes, decimal}
 use Rattle.m4_model.specs.Field.{Field, width}
 use Rattle.m4_model.specs.Matrix.{Matrix, added, product}
-use Rattle.m4_model.specs.Shapes.{transposed, above, beside, LiesInside, cut, replace}
+use Rattle.m4_model.specs.Shapes.{transposed, above, beside, LiesInside, cut, HasRoom, with_product}
 use Rattle.m4_model.specs.Rank.{IsRank}
 use Rattle.m4_model.specs.Forms.{IsReduced, IsInverse, Singular, IsSolution, NoSolution, IsKernel}
 use Rattle.m4_model.specs.Factors.{IsPle, IsPluq}
+use Rattle.m4_model.specs.Stock.{Stock, bytes_of}
+use Rattle.m4_model.specs.NumberLines.{numbers_line}
 use Rattle.m4_model.specs.Text.{IsWithinLimits}
 use Rattle.m4_model.specs.Headed.{headed_text, Fault, BadAt, BadDegreeAt, ReducibleAt, PastLimit}
 use Rattle.m4_model.specs.FormTexts.{can_hold, text_as, ReadsAs, RefusalAs}
-use Rattle.m4_model.specs.Words.{Job, job, form_of_files, form_of_answer}
-use Rattle.m4_model.specs.declared.choices.Form.{Form}
-use Rattle.m4_model.specs.declared.command.Command.{Command}
-use Rattle.m4_model.specs.declared.command.Command.TheVariants.{Mul, Addmul, Add, Transpose, Stack, Augment, Sub, Convert, Rank, Echelon, Inverse, Solve, Kernel, Ple, Pluq}
-use Rattle.m4_model.specs.declared.status.Status.{Status}
-use Rattle.m4_model.specs.declared.status.Status.TheVariants.{Done, No, Words, Text, Shape, Limit, Read, Write, Memory}
-
--- Files: names with their bytes. Of two with one name the first counts.
-abbrev pub Stock : Type 0
-Stock = List (List ℕ × List ℕ)
-
--- The bytes of the file of this name.
-abbrev pub bytes_of : Stock → List ℕ → Option (List ℕ)
-bytes_of stock name = option_map (λ file. file.1) (find (λ file. bytes_eq file.0 name) stock)
+use Rattle.m4_outcome.specs.Words.{Job, job, form_of_files, form_of_answer}
+use Rattle.m4_model.specs.declared.form.Form.{Form}
+use Rattle.m4_outcome.specs.declared.command.Command.{Command}
+use Rattle.m4_outcome.specs.declared.command.Command.TheVariants.{Mul, Addmul, Add, Transpose, Stack, Augment, Sub, Convert, Rank, Echelon, Inverse, Solve, Kernel, Ple, Pluq}
+use Rattle.m4_outcome.specs.declared.status.Status.{Status}
+use Rattle.m4_outcome.specs.declared.status.Status.TheVariants.{Done, No, Words, Text, Shape, Limit, Read, Write, Memory}
 
 -- Each file is there, and is read in this form as a matrix.
 abbrev pub Accepted : Stock → Form → List (List ℕ) → List Matrix → Type 0
@@ -53,12 +47,6 @@ pub record FirstMissing (stock : Stock) (form : Form) (names : List (List ℕ)) 
   pub place : names ≡ before ++ name ∷ after
   pub accepted : Accepted stock form before matrices
   pub missing : bytes_of stock name ≡ None
-
--- A rectangle of so many rows and columns at this place of C begins at a word's first column, and lies within C.
-pub record HasRoom (C : Matrix) (row col rows cols : ℕ) : Type 0 where
-  pub aligned : col * width C.field % 64 ≡ 0
-  pub within_rows : row + rows ≤ C.rows
-  pub within_cols : col + cols ≤ C.cols
 
 -- Rows `row` to `row_end - 1` and columns `col` to `col_end - 1` are those of a rectangle of A.
 abbrev pub HasRectangle : Matrix → ℕ → ℕ → ℕ → ℕ → Type 0
@@ -116,11 +104,6 @@ pub data Answer : Type 0 where
   Lines : List ℕ → Answer
   NoAnswer : List ℕ → Answer
 
--- C with A B added to the rectangle of its shape at this place.
-abbrev pub with_product : Matrix → ℕ → ℕ → Matrix → Matrix → Matrix
-with_product C row col A B =
-    replace C row col (added (cut C row col (row + A.rows) (col + B.cols)) (product A B))
-
 -- The answer is a matrix with this property.
 abbrev pub IsMatrixWith : (Matrix → Type 0) → Answer → Type 0
 IsMatrixWith property (OneMatrix R) = property R
@@ -142,14 +125,6 @@ IsMatrixOrNone property cause line (NoAnswer said) = cause × (said ≡ line)
 -- The line of a rank.
 abbrev pub rank_line : ℕ → List ℕ
 rank_line r = codes "rank " ++ (decimal r ++ codes "\n")
-
--- Numbers in digits, a space before each.
-abbrev pub numbers_text : List ℕ → List ℕ
-numbers_text numbers = flat_map (λ n. codes " " ++ decimal n) numbers
-
--- A line of a name and numbers.
-abbrev pub numbers_line : List ℕ → List ℕ → List ℕ
-numbers_line name numbers = name ++ (numbers_text numbers ++ codes "\n")
 
 -- The text of factors of a matrix: a line with the rank, one with the order of the rows, one that tells of columns, and
 -- the two factors as headed texts.

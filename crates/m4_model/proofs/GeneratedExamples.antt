@@ -1,7 +1,7 @@
--- Worked examples.
+-- Generated matrices: the first words of a seed, and rows of them, that were computed elsewhere.
 use Rattle.std.proofs.Common.{◌≡◌, [], ◌∷◌, refl}
 use Rattle.m4_model.specs.Field.{gf2}
-use Rattle.m4_gen.specs.Generated.{word, generated}
+use Rattle.m4_model.specs.Generated.{word, generated}
 use Rattle.m4_model.specs.Matrix.{table}
 
 -- the first words of seed 0

@@ -1,5 +1,5 @@
 ghost use Rattle.std.specs.Prelude.{◌≡◌};
-ghost use Rattle.m4_model.specs.Outcome.{code_of};
+ghost use Rattle.m4_outcome.specs.Outcome.{code_of};
 
 /// How a run of the program ends.
 #[derive(Clone, Copy, Debug, PartialEq, Eq)]

@@ -1,0 +1,3 @@
+mod WordsExamples
+mod SharedExamples
+mod FactorsExamples
