@@ -5,4 +5,4 @@ pub mod MoveLemmas
 pub mod HalvesLemmas
 pub mod PivotLemmas
 pub mod GatherLemmas
-pub mod TailLemmas
+pub mod ClearingLemmas

@@ -1,2 +1,2 @@
+pub mod Clearing
 pub mod Halves
-pub mod Tails

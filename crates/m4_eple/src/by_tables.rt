@@ -1,15 +1,15 @@
 //! The elimination of strips of columns by tables of multiples, as a base over extension fields.
 
 ghost use Rattle.std.specs.Prelude.{◌≡◌, ◌⊎◌, ℕ, ◌+◌, ◌<◌, ◌≤◌, ◌^◌, length, take, slice_index, IfOk};
-ghost use Rattle.m4_model.specs.Matrix.{row, with_row};
+ghost use Rattle.m4_model.specs.Matrix.{at, row};
 ghost use Rattle.m4_model.specs.Shapes.{swaps};
 ghost use Rattle.m4_field.specs.Fields.{the_field};
 ghost use Rattle.m4_mzed.specs.EWindow.{content, showing};
 ghost use Rattle.m4_mzed.specs.ESeen.{e_shown};
 ghost use Rattle.m4_perm.specs.Perm.{AreSwaps};
-ghost use Rattle.m4_ple.specs.Elimination.{cleared, cleared_row};
+ghost use Rattle.m4_ple.specs.Elimination.{cleared};
 ghost use Rattle.m4_ple.specs.Held.{HoldsPle};
-ghost use Rattle.m4_eple.specs.Tails.{IsTail};
+ghost use Rattle.m4_eple.specs.Clearing.{IsClearing};
 
 use crate::base::Base;
 use m4_field::Field;
@@ -30,7 +30,8 @@ const STRIP: u32 = 64;
 const FEW_ROWS: u32 = 32;
 
 /// The elimination of windows over one field by tables: all multiples of a pivot's row are made once, and one of them is
-/// added to each row below it, in one pass. This is Gaussian elimination by Newton-John tables: M. Albrecht, "The M4RIE library
+/// added to each row below it, in one pass. The row is scaled so that the multiple's number is the entry which it clears, and
+/// has the pivot's inverse in it so that the factor is left behind. This is Gaussian elimination by Newton-John tables: M. Albrecht, "The M4RIE library
 /// for dense linear algebra over small fields with even characteristic" (2012), section 3. Windows of more than 64 columns
 /// are eliminated row by row.
 #[derive(Drop)]
@@ -41,7 +42,7 @@ pub struct ByTables {
 
 impl Model for ByTables {
     ghost use Rattle.m4_model.specs.Field.{Field};
-    ghost use Rattle.m4_eple.specs.Tails.{AreTables};
+    ghost use Rattle.m4_eple.specs.Clearing.{AreTables};
 
     ghost Value = { Field };
 
@@ -110,21 +111,24 @@ impl ClearBelow for ByTables {
             return rows.clear_below(a, r, c, inverse);
         }
         let _rows = self.row.rows();
-        fill_from(&mut self.table, &mut self.row, &a.see(), r, c + 1);
-        clear_by_table(&self.table, a, r, c, inverse);
+        fill_from(&mut self.table, &mut self.row, &a.see(), r, c, inverse);
+        clear_by_table(&self.table, a, r, c);
     }
 }
 
-/// Fills the table from row `r` of the window, as if it were zero before column `c`. `spare` is a row to work in.
-fn fill_from(table: &mut NjTable, spare: &mut Mzed, a: &EWin, r: u32, c: u32)
+/// Fills the table from row `r` of the window, whose pivot in column `c` has this inverse. `spare` is a row to work in.
+fn fill_from(table: &mut NjTable, spare: &mut Mzed, a: &EWin, r: u32, c: u32, inverse: u32)
     requires field { (e_shown a.now).field ≡ table.old.field }
     requires spare_field { spare.old.field ≡ table.old.field }
     requires one_row { spare.old.rows ≡ 1 }
     requires room { (e_shown a.now).cols ≤ spare.old.cols }
     requires cols { (e_shown a.now).cols ≤ table.old.cols }
     requires in_rows { r < (e_shown a.now).rows }
-    requires in_cols { c ≤ (e_shown a.now).cols }
-    ensures tail { IsTail c (row (e_shown a.now) r) table.new.row }
+    requires in_cols { c < (e_shown a.now).cols }
+    requires behind { r ≤ c }
+    requires element { inverse < 2 ^ (e_shown a.now).field.degree }
+    ensures clearing { IsClearing (e_shown a.now).field inverse r c (row (e_shown a.now) r) table.new.row }
+    ensures long { length table.new.row ≡ (e_shown a.now).cols }
     ensures field { table.new.field ≡ table.old.field }
     ensures cols { table.new.cols ≡ table.old.cols }
     ensures spare_field { spare.new.field ≡ spare.old.field }
@@ -132,18 +136,38 @@ fn fill_from(table: &mut NjTable, spare: &mut Mzed, a: &EWin, r: u32, c: u32)
     ensures spare_cols { spare.new.cols ≡ spare.old.cols }
 {
     let _rows = a.rows();
-    let cols = a.cols();
     let rect = Rect {
         r0: 0,
         c0: 0,
         r1: 1,
-        c1: cols,
+        c1: a.cols(),
     };
     let (mut part, around) = spare.win_mut(rect);
-    part.clear_row(0);
-    part.copy_part(0, c, a, r, c, cols - c);
+    put_clearing(&mut part, a, r, c, inverse);
     fill_uncounted::<Brand>(table, &part.see(), Blank::new(1));
     spare.put_win(part, around);
+}
+
+/// Makes the one row of a window that whose multiples clear column `c` and leave the factors in column `r`, of row `r` of `a`,
+/// whose pivot in column `c` has this inverse.
+fn put_clearing(part: &mut EWinMut, a: &EWin, r: u32, c: u32, inverse: u32)
+    requires one_row { part.old.rows ≡ 1 }
+    requires same_cols { (e_shown a.now).cols ≡ part.old.cols }
+    requires same_field { (e_shown a.now).field ≡ part.old.field }
+    requires in_rows { r < (e_shown a.now).rows }
+    requires in_cols { c < part.old.cols }
+    requires behind { r ≤ c }
+    requires element { inverse < 2 ^ part.old.field.degree }
+    ensures kept { part.new ≡ showing part.old (content part.new) }
+    ensures clearing { IsClearing part.old.field inverse r c (row (e_shown a.now) r) (row (content part.new) 0) }
+{
+    let _rows = part.rows();
+    let _rows_of_a = a.rows();
+    part.clear_row(0);
+    part.add_tail(0, a, r, inverse, c + 1);
+    part.put(0, c, 1);
+    let held = part.get(0, r);
+    part.put(0, r, held ^ inverse);
 }
 
 /// Fills the table from the window's first row, with a count of steps that no one reads.
@@ -160,40 +184,20 @@ fn fill_uncounted<L: Ledger>(table: &mut NjTable, from: &EWin, blank: Blank)
     table.fill(from, 0, &mut steps);
 }
 
-/// Clears column `c` below row `r` by the multiples in the table, which is filled from that row behind the column, and keeps
-/// the factors in column `r`.
-fn clear_by_table(table: &NjTable, a: &mut EWinMut, r: u32, c: u32, inverse: u32)
+/// Clears column `c` below row `r` by the multiples in the table, which is filled from that row, and leaves the factors in
+/// column `r`.
+fn clear_by_table(table: &NjTable, a: &mut EWinMut, r: u32, c: u32)
     requires field { a.old.field ≡ table.now.field }
+    requires long { length table.now.row ≡ a.old.cols }
     requires in_rows { r < a.old.rows }
     requires in_cols { c < a.old.cols }
     requires behind { r ≤ c }
-    requires element { inverse < 2 ^ a.old.field.degree }
-    requires filled { IsTail (c + 1) (row (content a.old) r) table.now.row }
-    ensures { a.new ≡ showing a.old (cleared inverse r c a.old.rows (content a.old)) }
+    requires blank { (i : ℕ) → r < i → i < a.old.rows → r < c → at (content a.old) i r ≡ 0 }
+    ensures { (inverse : ℕ) → IsClearing a.old.field inverse r c (row (content a.old) r) table.now.row → a.new ≡ showing a.old (cleared inverse r c a.old.rows (content a.old)) }
 {
     let _cols = a.cols();
     for i in r + 1..a.rows() {
-        clear_entry(table, a, i, r, c, inverse);
-    }
-}
-
-/// Clears row `i` in column `c` by a multiple of row `r` in the table, and keeps the factor in column `r`.
-fn clear_entry(table: &NjTable, a: &mut EWinMut, i: u32, r: u32, c: u32, inverse: u32)
-    requires field { a.old.field ≡ table.now.field }
-    requires in_rows { i < a.old.rows }
-    requires below { r < i }
-    requires in_cols { c < a.old.cols }
-    requires behind { r ≤ c }
-    requires element { inverse < 2 ^ a.old.field.degree }
-    requires filled { IsTail (c + 1) (row (content a.old) r) table.now.row }
-    ensures { a.new ≡ showing a.old (with_row (content a.old) i (cleared_row inverse r c (content a.old) i)) }
-{
-    let _rows = a.rows();
-    let entry = a.get(i, c);
-    if entry != 0 {
-        let factor = a.field().mul(entry, inverse);
-        table.add_multiple(a, i, factor);
-        a.put(i, c, 0);
-        a.put(i, r, factor);
+        let entry = a.get(i, c);
+        table.add_multiple(a, i, entry);
     }
 }

@@ -130,6 +130,13 @@ module _ {A W : Matrix} {p q : List ℕ} {r c : ℕ} (old : IsEliminated A p q r
   rank_reached = let room = rising_room (take r q) c old.partial.rising (λ k below. let rank = old.partial.rank in old.partial.columns k (omega (arith, below, rank))) in
       let rank = old.partial.rank in omega (arith, room, rank)
 
+  -- the columns before are cleared from the row of the next pivot on
+  pub eliminated_before : (i j : ℕ) → r ≤ i → i < A.rows → r ≤ j → j < c → at W i j ≡ 0
+  eliminated_before i j from in_rows right left =
+      let reach = old.partial.reach in
+      sym (at-upper A.field A.rows A.cols r W i j in_rows (omega (arith, left, reach)) ∙ upper_at-held A.field A.rows A.cols r W i j (inr right))
+      ∙ old.partial.below i j from in_rows left
+
   -- a column without a pivot
   pub eliminated_skip : c < A.cols → ((i : ℕ) → r ≤ i → i < A.rows → at W i c ≡ 0) → IsEliminated A p q r (c + 1) W
   eliminated_skip inside none = record {
@@ -158,6 +165,14 @@ exchange-side : (r s i : ℕ) → r ≤ s → (i < r) ⊎ (r ≤ i) → ((i < r)
 exchange-side r s i order (inl above) =
     inl (above, exchange-other r s i (λ same. absurd (omega (arith, same, above))) (λ same. absurd (omega (arith, same, above, order))))
 exchange-side r s i order (inr from) = inr (from, exchange_elim (λ _ k. r ≤ k) r s i order (let e : r ≤ r = omega arith in e) (λ _ _. from))
+
+-- a column that is zero from row r on is so after the exchange
+pub swapped_blank : (W : Matrix) (r s j : ℕ) → length W.entries ≡ W.rows → r ≤ s → s < W.rows → ((i : ℕ) → r ≤ i → i < W.rows → at W i j ≡ 0)
+    → (i : ℕ) → r ≤ i → i < W.rows → at (with_swapped W r s) i j ≡ 0
+swapped_blank W r s j height order below blank i from in_rows =
+    let first : r < W.rows = omega (arith, order, below) in
+    ap (λ (xs : List ℕ). get_or xs j 0) (row_swap W.entries r s i (omega (arith, first, height)) (omega (arith, below, height)))
+    ∙ exchange_elim (λ _ k. at W k j ≡ 0) r s i (blank s order below) (blank r (omega arith) first) (λ _ _. blank i from in_rows)
 
 module _ {F : Field} {m n : ℕ} (W : Matrix) (w : HasShape F m n W) (r s : ℕ) (first : r < m) (second : s < m) where
   -- the entries after the exchange

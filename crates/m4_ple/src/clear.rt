@@ -2,7 +2,7 @@
 
 ghost use Rattle.std.specs.Prelude.{◌≡◌, ℕ, ◌+◌, ◌<◌, ◌≤◌, ◌^◌};
 ghost use Rattle.m4_model.specs.Field.{Field};
-ghost use Rattle.m4_model.specs.Matrix.{with_row};
+ghost use Rattle.m4_model.specs.Matrix.{at, with_row};
 ghost use Rattle.m4_mzed.specs.EWindow.{content, showing};
 ghost use Rattle.m4_ple.specs.Elimination.{cleared, cleared_row};
 
@@ -13,12 +13,14 @@ pub trait ClearBelow {
     // Whether it clears rows of so many elements of this field.
     ghost Serves: { Self → Field → ℕ → Type 0 };
 
-    /// Clears column `c` below row `r`, whose pivot there has this inverse, and keeps the factors in column `r`.
+    /// Clears column `c` below row `r`, whose pivot there has this inverse, and keeps the factors in column `r`, which is zero
+    /// below the row where it isn't column `c` itself.
     fn clear_below(&mut self, a: &mut EWinMut, r: u32, c: u32, inverse: u32)
         requires serves { Serves self.old a.old.field a.old.cols }
         requires in_rows { r < a.old.rows }
         requires in_cols { c < a.old.cols }
         requires behind { r ≤ c }
+        requires blank { (i : ℕ) → r < i → i < a.old.rows → r < c → at (content a.old) i r ≡ 0 }
         requires element { inverse < 2 ^ a.old.field.degree }
         ensures cleared { a.new ≡ showing a.old (cleared inverse r c a.old.rows (content a.old)) }
         ensures still_serves { (F : Field) (cols : ℕ) → Serves self.old F cols → Serves self.new F cols };

@@ -87,6 +87,7 @@ fn eliminate_column<C: ClearBelow>(
 ) -> u32
     requires in_cols { c < a.old.cols }
     requires reached { rank ≤ c }
+    requires blank { (i : ℕ) → rank ≤ i → i < a.old.rows → rank < c → at (content a.old) i rank ≡ 0 }
     requires exchanges { length p.old ≡ a.old.rows }
     requires pivots { (length q.old ≡ a.old.rows) ⊎ (a.old.cols ≤ length q.old) }
     requires fits { C.Serves with.old a.old.field a.old.cols }

@@ -5,3 +5,4 @@ pub mod Windows
 pub mod Quarters
 pub mod Halves
 pub mod Solves
+pub mod WordHalves

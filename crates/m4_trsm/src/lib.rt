@@ -1,9 +1,10 @@
-//! Triangular solves over GF(2): a window becomes the solution of an equation with a triangle on its left or on its right.
+//! Triangular solves over any field: a window becomes the solution of an equation with a triangle on its left or on its right.
 //!
 //! The triangle is the part of a square window below or above its diagonal. Its diagonal counts as ones, and neither that
-//! nor what lies on the other side is read. Each solve halves the triangle at a multiple of 64, solves with one half, gives
+//! nor what lies on the other side is read. Each solve halves the triangle where a word begins, solves with one half, gives
 //! the product with the corner between them to an engine, and solves with the other half; a triangle whose side is at most
-//! the cutoff is solved row by row, in whole words. No call takes memory.
+//! the cutoff is solved row by row, in whole words. On the left a triangle over an extension field is halved down to 16
+//! rows, since a multiple of a row costs several times its sum. No call takes memory.
 //!
 //! Source: M. Albrecht, G. Bard, C. Pernet, "Efficient dense Gaussian elimination over the field with two elements" (2011),
 //! the section on triangular solves.

@@ -1,10 +1,10 @@
-use Rattle.std.proofs.Common.{◌≡◌, ℕ, ◌+◌, ◌<◌, ⊎_elim, sym, ◌∙◌, ap, subst, arith, length, slice_set, swap}
+use Rattle.std.proofs.Common.{◌≡◌, ℕ, ◌+◌, ◌<◌, ◌≤◌, ⊎_elim, sym, ◌∙◌, ap, subst, arith, length, slice_set, swap}
 use Rattle.m4_model.specs.Field.{Field, IsElement, mul}
 use Rattle.m4_model.specs.Matrix.{at}
 use Rattle.m4_field.specs.Fields.{the_field}
 use Rattle.m4_mzed.specs.EWindow.{EWindow, content}
 use Rattle.m4_ple.specs.Elimination.{IsEliminated, cleared}
-use Rattle.m4_ple.proofs.Eliminated.{eliminated_skip, eliminated_pivot}
+use Rattle.m4_ple.proofs.Eliminated.{eliminated_skip, eliminated_pivot, swapped_blank}
 use Rattle.m4_ple.proofs.plain.eliminate_column.Goals as goal
 
 pub returns-in_default-clause-eliminated : goal.returns-in_default-clause-eliminated
@@ -42,3 +42,13 @@ overflow_add-result g c =
     let within = c.in-Some.ensures.in_rows in
     let few = c.rows-rows.ensures.few_rows in
     omega (arith, above, within, few)
+
+pub clear_below-requires-clause-blank : goal.clear_below-requires-clause-blank
+clear_below-requires-clause-blank g c i low in_rows left =
+    let W = c.args.a.now in
+    let r = c.args.rank in
+    let height = c.rows-rows.ensures.matrix.height in
+    let tall = ap (λ (V : EWindow). V.rows) c.swap_rows.ensures in
+    let blank = λ (i : ℕ) (from : r ≤ i) (below : i < W.rows). c.requires.blank i from below left in
+    ap (λ (V : EWindow). at (content V) i r) c.swap_rows.ensures
+    ∙ swapped_blank (content W) r c.in-Some.row r height c.in-Some.ensures.behind c.in-Some.ensures.in_rows blank i (omega (arith, low)) (omega (arith, in_rows, tall))

@@ -2,7 +2,7 @@ use Rattle.std.proofs.Common.{ℕ, sym, ◌∙◌, refl, ap, subst, arith, List}
 use Rattle.std.specs.List.{range_with_len}
 use Rattle.m4_mzed.specs.EWindow.{EWindow, content, showing}
 use Rattle.m4_ple.specs.Elimination.{IsEliminated}
-use Rattle.m4_ple.proofs.Eliminated.{eliminated_start, eliminated_done, rank_reached}
+use Rattle.m4_ple.proofs.Eliminated.{eliminated_start, eliminated_done, eliminated_before, rank_reached}
 use Rattle.m4_ple.proofs.plain.ple_by_columns.Goals as goal
 
 pub loop-c-init : goal.loop-c-init
@@ -18,6 +18,12 @@ loop-c-init g c =
 
 pub eliminate_column-rank-requires-clause-reached : goal.eliminate_column-rank-requires-clause-reached
 eliminate_column-rank-requires-clause-reached g c = rank_reached c.loop-c.invariant.eliminated
+
+pub eliminate_column-rank-requires-clause-blank : goal.eliminate_column-rank-requires-clause-blank
+eliminate_column-rank-requires-clause-blank g c i from below left =
+    let old = c.loop-c.invariant.eliminated in
+    let rows = old.shape.rows in
+    eliminated_before old i c.loop-c.rank from (omega (arith, below, rows)) (omega arith) left
 
 pub loop-c-preserved : goal.loop-c-preserved
 loop-c-preserved g c =
