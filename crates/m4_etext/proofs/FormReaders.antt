@@ -3,6 +3,7 @@ use Rattle.std.proofs.Common.{◌≡◌, ℕ, List, ◌++◌, Option, Some, None
 use Rattle.std.proofs.lemmas.Result.{MatchResult-weaker}
 use Rattle.m4_model.specs.Matrix.{Matrix}
 use Rattle.m4_model.specs.Headed.{Reads}
+use Rattle.m4_model.specs.Bare.{ReadsBare}
 use Rattle.m4_model.specs.FormTexts.{ReadsAs}
 use Rattle.m4_model.specs.Texts.{ReadsAs as ReadsBits}
 use Rattle.m4_model.specs.declared.form.Form.{Form}
@@ -14,13 +15,16 @@ use Rattle.m4_text.specs.Reader.{Collected}
 use Rattle.m4_text.specs.Reader.{StandsFor as StandsForBits, IsFaultOf as IsBitsFault, IsFaultOfAll as IsBitsFaultOfAll}
 use Rattle.m4_etext.specs.Standing.{IsFaultOf, IsFaultOfAll}
 use Rattle.m4_etext.specs.Reading.{StandsFor, IsUntold}
-use Rattle.m4_etext.specs.FormReading.{Fed, IsPartFor, StandsForPart, StandsForText, over_bits, told_at, told_by, IsFaultIn, IsFaultOfAllIn}
+use Rattle.m4_etext.specs.BareReading.{StandsForBare}
+use Rattle.m4_etext.specs.FormFaults.{IsFaultIn, IsFaultOfAllIn}
+use Rattle.m4_etext.specs.FormReading.{Fed, IsPartFor, StandsForPart, StandsForText, over_bits, told_at, told_by}
+use Rattle.m4_etext.specs.declared.bare.BareState.{BareState}
 use Rattle.m4_etext.specs.declared.fault.TextFault.{TextFault}
 use Rattle.m4_etext.specs.declared.fault.TextFault.TheVariants.{Bad, Field, Limit, NoMemory}
 use Rattle.m4_etext.specs.declared.reader.State.{State}
 use Rattle.m4_etext.specs.declared.reader.State.TheVariants.{AtHead, AtLines, Told}
 use Rattle.m4_etext.specs.declared.form_reader.Part.{Part}
-use Rattle.m4_etext.specs.declared.form_reader.Part.TheVariants.{OfHeaded, OfBits}
+use Rattle.m4_etext.specs.declared.form_reader.Part.TheVariants.{OfHeaded, OfBare, OfJcf}
 
 -- the parts are of the form still
 pub headed_still : (form : Form) (s t : State) → IsPartFor form (OfHeaded s) → IsPartFor form (OfHeaded t)
@@ -29,9 +33,15 @@ headed_still Bare s t is = absurd is
 headed_still Jcf s t is = absurd is
 headed_still Hex s t is = tt
 
-pub bits_still : (form : Form) (k l : Collected) → l.form ≡ k.form → IsPartFor form (OfBits k) → IsPartFor form (OfBits l)
+pub bare_still : (form : Form) (s t : BareState) → IsPartFor form (OfBare s) → IsPartFor form (OfBare t)
+bare_still Headed s t is = absurd is
+bare_still Bare s t is = tt
+bare_still Jcf s t is = absurd is
+bare_still Hex s t is = absurd is
+
+pub bits_still : (form : Form) (k l : Collected) → l.form ≡ k.form → IsPartFor form (OfJcf k) → IsPartFor form (OfJcf l)
 bits_still Headed k l same is = absurd is
-bits_still Bare k l same is = same ∙ is
+bits_still Bare k l same is = absurd is
 bits_still Jcf k l same is = same ∙ is
 bits_still Hex k l same is = absurd is
 
@@ -59,29 +69,37 @@ headed_read Bare s bytes M is reads = absurd is
 headed_read Jcf s bytes M is reads = absurd is
 headed_read Hex s bytes M is reads = reads
 
--- faults of texts over GF(2)
-bare_fault : (bytes : List ℕ) (fault : BitsFault) → IsBitsFault Bare bytes fault → IsFaultIn Bare bytes (over_bits fault)
-bare_fault bytes (bits_bad at) refused = refused
-bare_fault bytes bits_limit refused = refused
-bare_fault bytes bits_no_memory refused = tt
+-- faults of bare text
+pub bare_fault : (form : Form) (s : BareState) (bytes : List ℕ) (fault : TextFault) → IsPartFor form (OfBare s) → IsFaultIn Bare bytes fault → IsFaultIn form bytes fault
+bare_fault Headed s bytes fault is refused = absurd is
+bare_fault Bare s bytes fault is refused = refused
+bare_fault Jcf s bytes fault is refused = absurd is
+bare_fault Hex s bytes fault is refused = absurd is
 
+pub bare_read : (form : Form) (s : BareState) (bytes : List ℕ) (M : Matrix) → IsPartFor form (OfBare s) → ReadsBare bytes M → ReadsAs form bytes M
+bare_read Headed s bytes M is reads = absurd is
+bare_read Bare s bytes M is reads = reads
+bare_read Jcf s bytes M is reads = absurd is
+bare_read Hex s bytes M is reads = absurd is
+
+-- faults of JCF
 jcf_fault : (bytes : List ℕ) (fault : BitsFault) → IsBitsFault Jcf bytes fault → IsFaultIn Jcf bytes (over_bits fault)
 jcf_fault bytes (bits_bad at) refused = refused
 jcf_fault bytes bits_limit refused = refused
 jcf_fault bytes bits_no_memory refused = tt
 
-pub bits_fault : (form : Form) (k : Collected) (bytes : List ℕ) (fault : BitsFault) → IsPartFor form (OfBits k) → IsBitsFault k.form bytes fault → IsFaultIn form bytes (over_bits fault)
+pub bits_fault : (form : Form) (k : Collected) (bytes : List ℕ) (fault : BitsFault) → IsPartFor form (OfJcf k) → IsBitsFault k.form bytes fault → IsFaultIn form bytes (over_bits fault)
 bits_fault Headed k bytes fault is refused = absurd is
-bits_fault Bare k bytes fault is refused = bare_fault bytes fault (subst (λ f. IsBitsFault f bytes fault) is refused)
+bits_fault Bare k bytes fault is refused = absurd is
 bits_fault Jcf k bytes fault is refused = jcf_fault bytes fault (subst (λ f. IsBitsFault f bytes fault) is refused)
 bits_fault Hex k bytes fault is refused = absurd is
 
-pub bits_fault_of_all : (form : Form) (k : Collected) (bytes : List ℕ) (fault : BitsFault) → IsPartFor form (OfBits k) → IsBitsFaultOfAll k.form bytes fault → IsFaultOfAllIn form bytes (over_bits fault)
+pub bits_fault_of_all : (form : Form) (k : Collected) (bytes : List ℕ) (fault : BitsFault) → IsPartFor form (OfJcf k) → IsBitsFaultOfAll k.form bytes fault → IsFaultOfAllIn form bytes (over_bits fault)
 bits_fault_of_all form k bytes fault is refused more = bits_fault form k (bytes ++ more) fault is (refused more)
 
-pub bits_read : (form : Form) (k : Collected) (bytes : List ℕ) (M : Matrix) → IsPartFor form (OfBits k) → ReadsBits k.form bytes M → ReadsAs form bytes M
+pub bits_read : (form : Form) (k : Collected) (bytes : List ℕ) (M : Matrix) → IsPartFor form (OfJcf k) → ReadsBits k.form bytes M → ReadsAs form bytes M
 bits_read Headed k bytes M is reads = absurd is
-bits_read Bare k bytes M is reads = subst (λ f. ReadsBits f bytes M) is reads
+bits_read Bare k bytes M is reads = absurd is
 bits_read Jcf k bytes M is reads = subst (λ f. ReadsBits f bytes M) is reads
 bits_read Hex k bytes M is reads = absurd is
 
@@ -109,7 +127,15 @@ headed_finish_fails r s result is for_form fails =
     MatchResult-weaker result fails (λ _ _. tt) (λ fault refused bytes stands.
     headed_fault r.form s bytes fault of_form (refused bytes (subst (λ (p : Part). StandsForPart p bytes) is stands)))
 
-pub read_untold : (r : Fed) (k : Collected) (result : Result Matrix BitsFault) (M : Matrix) (fault : TextFault) → r.part ≡ OfBits k → result ≡ Ok M
+pub bare_finish_fails : (r : Fed) (s : BareState) (result : Result Matrix TextFault) → r.part ≡ OfBare s → IsPartFor r.form r.part
+    → IfErr result (λ fault. (bytes : List ℕ) → StandsForBare s bytes → IsFaultIn Bare bytes fault)
+    → IfErr result (λ fault. (bytes : List ℕ) → StandsForText r bytes → IsFaultIn r.form bytes fault)
+bare_finish_fails r s result is for_form fails =
+    let of_form : IsPartFor r.form (OfBare s) = subst (IsPartFor r.form) is for_form in
+    MatchResult-weaker result fails (λ _ _. tt) (λ fault refused bytes stands.
+    bare_fault r.form s bytes fault of_form (refused bytes (subst (λ (p : Part). StandsForPart p bytes) is stands)))
+
+pub read_untold : (r : Fed) (k : Collected) (result : Result Matrix BitsFault) (M : Matrix) (fault : TextFault) → r.part ≡ OfJcf k → result ≡ Ok M
     → ((f : BitsFault) → k.fault ≡ Some f → result ≡ Err f) → told_by r.part ≡ Some fault → ⊥
 read_untold r k result M fault is read told_then told =
     let (f, kept, e) = bits_told k.fault fault (subst (λ (p : Part). told_by p ≡ Some fault) is told) in
@@ -127,12 +153,22 @@ headed_feed_fails r s o piece given result is for_form same given_is fails =
     headed_fault_of_all r.form s (bytes ++ piece) fault of_form
     (refused bytes (subst (λ (p : State). StandsFor p bytes) (sym same) (subst (λ (p : Part). StandsForPart p bytes) is stands)))))
 
-pub bits_feed_fails : {T : Type 0} (r : Fed) (k o new : Collected) (piece : List ℕ) (f : BitsFault) (result : Result T TextFault) → r.part ≡ OfBits k → IsPartFor r.form r.part → o ≡ k
+pub bare_feed_fails : {T : Type 0} (r : Fed) (s o : BareState) (piece : List ℕ) (given result : Result T TextFault) → r.part ≡ OfBare s → IsPartFor r.form r.part → o ≡ s → result ≡ given
+    → IfErr given (λ fault. (bytes : List ℕ) → StandsForBare o bytes → IsFaultOfAllIn Bare (bytes ++ piece) fault)
+    → IfErr result (λ fault. (bytes : List ℕ) → StandsForText r bytes → IsFaultOfAllIn r.form (bytes ++ piece) fault)
+bare_feed_fails r s o piece given result is for_form same given_is fails =
+    let of_form : IsPartFor r.form (OfBare s) = subst (IsPartFor r.form) is for_form in
+    subst (λ x. IfErr x (λ fault. (bytes : List ℕ) → StandsForText r bytes → IsFaultOfAllIn r.form (bytes ++ piece) fault)) (sym given_is)
+    (MatchResult-weaker given fails (λ _ _. tt) (λ fault refused bytes stands more.
+    bare_fault r.form s ((bytes ++ piece) ++ more) fault of_form
+    (refused bytes (subst (λ (p : BareState). StandsForBare p bytes) (sym same) (subst (λ (p : Part). StandsForPart p bytes) is stands)) more)))
+
+pub bits_feed_fails : {T : Type 0} (r : Fed) (k o new : Collected) (piece : List ℕ) (f : BitsFault) (result : Result T TextFault) → r.part ≡ OfJcf k → IsPartFor r.form r.part → o ≡ k
     → result ≡ Err (over_bits f) → ((bytes : List ℕ) → StandsForBits o bytes → StandsForBits new (bytes ++ piece))
     → ((bytes : List ℕ) → StandsForBits new bytes → IsBitsFaultOfAll o.form bytes f)
     → IfErr result (λ fault. (bytes : List ℕ) → StandsForText r bytes → IsFaultOfAllIn r.form (bytes ++ piece) fault)
 bits_feed_fails r k o new piece f result is for_form same given more fails =
-    let of_form : IsPartFor r.form (OfBits k) = subst (IsPartFor r.form) is for_form in
+    let of_form : IsPartFor r.form (OfJcf k) = subst (IsPartFor r.form) is for_form in
     subst (λ x. IfErr x (λ fault. (bytes : List ℕ) → StandsForText r bytes → IsFaultOfAllIn r.form (bytes ++ piece) fault)) (sym given)
     (λ bytes stands.
     bits_fault_of_all r.form k (bytes ++ piece) f of_form

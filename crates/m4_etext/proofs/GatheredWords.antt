@@ -1,13 +1,12 @@
 -- Words of elements, gathered from their digits one element after another.
 use Rattle.std.proofs.Common.{◌≡◌, ℕ, suc, ◌+◌, ◌-◌, ◌*◌, ◌/◌, ◌%◌, ◌^◌, ◌<◌, ◌≤◌, ◌==◌, ◌||◌, inl, inr, min, List, get_or, sym, ◌∙◌, ap, ap₂, subst, arith, IsTrue, bit_xor, cond, nat_eq, mod-eq_of_lt}
-use Rattle.std.specs.Int.{bit_at}
 use Rattle.std.specs.Int.Bits.{xor_zero_l, xor_zero_r}
-use Rattle.std.proofs.lemmas.Nat.Bits.{bit_at-zero, bit_at_above, bit_at_cat_low, bit_at_cat_high, same_from_bits_below}
 use Rattle.std.proofs.Math.Nat.{div-lt_iff_lt-mul, div-div-eq-div-mul}
 use Rattle.std.proofs.lemmas.Nat.{div-add-mod', pow-add, pow_pos}
-use Rattle.std.proofs.lemmas.Bool.{cases_lt, cases_eq, cond-true, cond-false, eq-eqb, ne_eqb}
+use Rattle.std.proofs.lemmas.Bool.{cases_eq, cond-true, cond-false, eq-eqb, ne_eqb}
 use Rattle.m4_mzed.specs.Words.{element}
-use Rattle.m4_mzed.proofs.WordLemmas.{element-lt, element-xor, bit_at-element}
+use Rattle.m4_mzed.proofs.ElementLemmas.{element_shifted}
+use Rattle.m4_mzed.proofs.WordLemmas.{element-xor}
 use Rattle.m4_etext.specs.Place.{IsValue}
 use Rattle.m4_etext.specs.Digits.{digit_of_elements}
 use Rattle.m4_etext.specs.ElementWords.{IsSpelled, IsWordOfElements}
@@ -62,39 +61,6 @@ place_below w k is below =
     let room = place_small w k is below in
     let some : 0 < w = each_width (λ w. 0 < w) (omega arith) (omega arith) (omega arith) (omega arith) (omega arith) w is in
     omega (arith, room, some)
-
-next_place : (i j k : ℕ) → i < j → i * k + k ≤ j * k
-next_place i j k less = let e = times_le (suc i) j k less in let f : suc i * k ≡ i * k + k = omega arith in omega (arith, e, f)
-
--- the elements of a shifted number
-element_shifted : (k at i d : ℕ) → d < 2 ^ k → element k i (d * 2 ^ (at * k)) ≡ cond (nat_eq i at) d 0
-element_shifted k at i d small = elim (cases_eq i at) [
-  | inl here ↦
-      same_from_bits_below k _ d (element-lt k i _) small (λ v v_below.
-      let e : i * k + v ≡ at * k + v = ap (λ n. n * k + v) here in
-      let back : at * k + v - at * k ≡ v = omega arith in
-      bit_at-element k i (d * 2 ^ (at * k)) v v_below ∙ ap (bit_at (d * 2 ^ (at * k))) e
-      ∙ ap (λ n. bit_at n (at * k + v)) (plus_zero (d * 2 ^ (at * k)))
-      ∙ bit_at_cat_high d (at * k) 0 (at * k + v) (pow_pos (at * k)) (omega arith) ∙ ap (bit_at d) back)
-      ∙ sym (cond-true _ d 0 (eq-eqb i at here))
-  | inr away ↦
-      same_from_bits_below k _ 0 (element-lt k i _) (pow_pos k) (λ v v_below.
-      bit_at-element k i (d * 2 ^ (at * k)) v v_below ∙ ap (λ n. bit_at n (i * k + v)) (plus_zero (d * 2 ^ (at * k)))
-      ∙ (elim (cases_lt i at) [
-        | inl before ↦ bit_at_cat_low d (at * k) 0 (i * k + v) (let m = next_place i at k before in omega (arith, m, v_below))
-        | inr behind ↦
-            let m = next_place at i k (omega (arith, away, behind)) in
-            bit_at_cat_high d (at * k) 0 (i * k + v) (pow_pos (at * k)) (omega (arith, m))
-            ∙ bit_at_above d k (i * k + v - at * k) small (omega (arith, m)) ∙ sym (bit_at-zero (i * k + v))
-      ]) ∙ none (i * k + v) v)
-      ∙ sym (cond-false _ d 0 (ne_eqb i at away))
-]
-  where
-    plus_zero : (n : ℕ) → n ≡ n + 0
-    plus_zero n = omega arith
-
-    none : (a b : ℕ) → bit_at 0 a ≡ bit_at 0 b
-    none a b = bit_at-zero a ∙ sym (bit_at-zero b)
 
 -- a word with one element more
 module _ (digits : List ℕ) (w k end m word x : ℕ) (is : IsTrue (w == 1 || w == 2 || w == 4 || w == 8 || w == 16)) (some : 1 ≤ k) (below : m < 64 / w) (few : end ≤ 2 ^ w) (so_far : IsWordOfElements digits w k end m word)

@@ -19,6 +19,9 @@ pub mod HexNumbers
 pub mod WrittenRows
 pub mod Once
 pub mod GoingOn
+pub mod BareLines
+pub mod BareMoves
+pub mod BareReaders
 pub mod FormReaders
 pub mod OneFault
 pub mod OneMatrix

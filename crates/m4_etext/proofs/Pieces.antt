@@ -337,7 +337,7 @@ lines_more old new bytes front stands spelling head rows cols more =
     }
 
 -- what stops does so whatever follows it
-Stops-append : (S : Spelling) (m n r t : ℕ) (rest more : List ℕ) → 0 < length rest → Stops S m n r t rest → Stops S m n r t (rest ++ more)
+pub Stops-append : (S : Spelling) (m n r t : ℕ) (rest more : List ℕ) → 0 < length rest → Stops S m n r t rest → Stops S m n r t (rest ++ more)
 Stops-append S m n r t rest more some stops =
     let first : get_or (rest ++ more) 0 0 ≡ get_or rest 0 0 = get_or_append_left rest more 0 0 some in
     record {

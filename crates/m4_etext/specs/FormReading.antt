@@ -1,20 +1,19 @@
 -- What a reader of a text in any form keeps, and the bytes for which it stands.
-use Rattle.std.specs.Prelude.{◌≡◌, ℕ, ◌^◌, ◌≤◌, List, ◌++◌, length, Option, Some, None, option_map}
-use Rattle.m4_model.specs.Headed.{BadAt, BadDegreeAt, ReducibleAt, PastLimit}
-use Rattle.m4_model.specs.FormTexts.{RefusalAs}
+use Rattle.std.specs.Prelude.{◌≡◌, ℕ, ◌^◌, ◌≤◌, List, length, Option, Some, None, option_map}
 use Rattle.m4_model.specs.declared.form.Form.{Form}
 use Rattle.m4_model.specs.declared.form.Form.TheVariants.{Headed, Bare, Jcf, Hex}
-use Rattle.m4_field.specs.declared.field.FieldFault.TheVariants.{BadDegree, Reducible}
 use Rattle.m4_text.specs.declared.fault.TextFault.{TextFault as BitsFault}
 use Rattle.m4_text.specs.declared.fault.TextFault.TheVariants.{Bad as bits_bad, Limit as bits_limit, NoMemory as bits_no_memory}
 use Rattle.m4_text.specs.Reader.{StandsFor as StandsForBits}
 use Rattle.m4_etext.specs.Reading.{StandsFor, HasMatrix, GoesOn}
 use Rattle.m4_etext.specs.declared.fault.TextFault.{TextFault}
-use Rattle.m4_etext.specs.declared.fault.TextFault.TheVariants.{Bad, Field, Limit, NoMemory}
+use Rattle.m4_etext.specs.declared.fault.TextFault.TheVariants.{Bad, Limit, NoMemory}
+pub use Rattle.m4_etext.specs.FormFaults.{IsFaultIn, IsFaultOfAllIn}
+use Rattle.m4_etext.specs.BareReading.{StandsForBare, IsOpen, told_in}
 use Rattle.m4_etext.specs.declared.reader.State.{State}
 use Rattle.m4_etext.specs.declared.reader.State.TheVariants.{AtHead, AtLines, Told}
 use Rattle.m4_etext.specs.declared.form_reader.Part.{Part}
-use Rattle.m4_etext.specs.declared.form_reader.Part.TheVariants.{OfHeaded, OfBits}
+use Rattle.m4_etext.specs.declared.form_reader.Part.TheVariants.{OfHeaded, OfBare, OfJcf}
 
 -- A reader: the form of its texts, and what it keeps.
 pub record Fed : Type 0 where
@@ -25,14 +24,15 @@ pub record Fed : Type 0 where
 abbrev pub IsPartFor : Form → Part → Type 0
 IsPartFor Headed (OfHeaded state) = Unit {0}
 IsPartFor Hex (OfHeaded state) = Unit {0}
-IsPartFor Bare (OfBits kept) = kept.form ≡ Bare
-IsPartFor Jcf (OfBits kept) = kept.form ≡ Jcf
+IsPartFor Bare (OfBare kept) = Unit {0}
+IsPartFor Jcf (OfJcf kept) = kept.form ≡ Jcf
 IsPartFor form part = ⊥
 
 -- It stands for these bytes.
 abbrev pub StandsForPart : Part → List ℕ → Type 0
 StandsForPart (OfHeaded state) bytes = StandsFor state bytes
-StandsForPart (OfBits kept) bytes = StandsForBits kept bytes
+StandsForPart (OfBare kept) bytes = StandsForBare kept bytes
+StandsForPart (OfJcf kept) bytes = StandsForBits kept bytes
 
 abbrev pub StandsForText : Fed → List ℕ → Type 0
 StandsForText reader bytes = StandsForPart reader.part bytes
@@ -51,30 +51,21 @@ told_at (Told fault) = Some fault
 
 abbrev pub told_by : Part → Option TextFault
 told_by (OfHeaded state) = told_at state
-told_by (OfBits kept) = option_map over_bits kept.fault
+told_by (OfBare kept) = told_in kept
+told_by (OfJcf kept) = option_map over_bits kept.fault
 
 -- The header line of a headed text is whole, and its matrix there.
 abbrev pub HasMatrixThere : Part → Type 0
 HasMatrixThere (OfHeaded state) = HasMatrix state
-HasMatrixThere (OfBits kept) = ⊥
+HasMatrixThere (OfBare kept) = ⊥
+HasMatrixThere (OfJcf kept) = ⊥
 
--- The bytes are refused in this form with this fault; where memory is wanting, nothing is said.
-abbrev pub IsFaultIn : Form → List ℕ → TextFault → Type 0
-IsFaultIn form bytes (Bad at) = RefusalAs form bytes (BadAt at)
-IsFaultIn form bytes (Field at BadDegree) = RefusalAs form bytes (BadDegreeAt at)
-IsFaultIn form bytes (Field at Reducible) = RefusalAs form bytes (ReducibleAt at)
-IsFaultIn form bytes Limit = RefusalAs form bytes PastLimit
-IsFaultIn form bytes NoMemory = Unit {0}
-
--- Every file that begins with the bytes is refused in this form with this fault.
-abbrev pub IsFaultOfAllIn : Form → List ℕ → TextFault → Type 0
-IsFaultOfAllIn form bytes fault = (more : List ℕ) → IsFaultIn form (bytes ++ more) fault
-
--- The text may go on behind these bytes: they are at most 2^29, and of headed text no one fault is that of every file that
--- begins with them, and where they have a whole header line, its matrix is there.
+-- The text may go on behind these bytes: they are at most 2^29, and of headed and bare text no one fault is that of every file
+-- that begins with them. Where they have the whole header line of a headed text, its matrix is there.
 abbrev pub MayGoOnIn : Part → List ℕ → Type 0
 MayGoOnIn (OfHeaded state) bytes = GoesOn state bytes
-MayGoOnIn (OfBits kept) bytes = Unit {0}
+MayGoOnIn (OfBare kept) bytes = IsOpen bytes
+MayGoOnIn (OfJcf kept) bytes = Unit {0}
 
 pub record MayGoOn (reader : Fed) (bytes : List ℕ) : Type 0 where
   pub short : length bytes ≤ 2 ^ 29

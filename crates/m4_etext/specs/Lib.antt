@@ -8,4 +8,7 @@ pub mod Reading
 pub mod Pending
 pub mod Digits
 pub mod ElementWords
+pub mod FormFaults
+pub mod BareRows
+pub mod BareReading
 pub mod FormReading

@@ -2,10 +2,12 @@
 
 ghost use Rattle.std.specs.Prelude.{◌≡◌, ℕ, [], List, ◌++◌, Some, None, Err, OnOk, IfOk, IfErr};
 ghost use Rattle.m4_model.specs.FormTexts.{ReadsAs};
-ghost use Rattle.m4_etext.specs.FormReading.{StandsForText, IsFaultIn, IsFaultOfAllIn, MayGoOn, HasMatrixThere, told_by, over_bits};
+ghost use Rattle.m4_etext.specs.FormReading.{StandsForText, MayGoOn, HasMatrixThere, told_by, over_bits};
+ghost use Rattle.m4_etext.specs.FormFaults.{IsFaultIn, IsFaultOfAllIn};
 ghost use Rattle.m4_etext.specs.declared.fault.TextFault.{TextFault};
 
 use crate::TextFault;
+use crate::bare::BareReader;
 use crate::reader::HeadedReader;
 use m4_model::Form;
 use m4_mzed::Mzed;
@@ -17,15 +19,18 @@ use std::marker::Model;
 pub enum Part {
     /// Of headed text in either version, the matrix and the place in it.
     OfHeaded(HeadedReader),
-    /// Of bare text and JCF, which are over GF(2) alone, the bytes.
-    OfBits(m4_text::Reader),
+    /// Of bare text, which is over GF(2) alone, the matrix so far and the place in it.
+    OfBare(BareReader),
+    /// Of JCF, which is over GF(2) alone, the bytes.
+    OfJcf(m4_text::Reader),
 }
 
 /// A reader that is fed a text in pieces.
 ///
 /// However the bytes are cut into pieces, they are read as the same matrix, or refused with the same fault. After a fault every
 /// later call answers that fault. Of headed text no bytes are kept behind the header line: the memory of the matrix is taken when
-/// that line is whole, and no more after it. The bytes of bare text and JCF are kept up to the end. `Form::Hex` reads as `Form::Headed`.
+/// that line is whole, and no more after it. Of bare text no bytes are kept: its matrix grows with its rows, to twice as many at
+/// most. The bytes of JCF are kept up to the end. `Form::Hex` reads as `Form::Headed`.
 #[derive(Drop)]
 pub struct Reader {
     form: Form,
@@ -55,9 +60,13 @@ impl Reader {
                 form,
                 part: Part::OfHeaded(HeadedReader::new(alloc)),
             },
-            Form::Bare | Form::Jcf => Reader {
+            Form::Bare => Reader {
                 form,
-                part: Part::OfBits(m4_text::Reader::new(alloc, form)),
+                part: Part::OfBare(BareReader::new(alloc)),
+            },
+            Form::Jcf => Reader {
+                form,
+                part: Part::OfJcf(m4_text::Reader::new(alloc, form)),
             },
         }
     }
@@ -77,7 +86,8 @@ impl Reader {
     {
         match &mut self.part {
             Part::OfHeaded(reader) => reader.feed(piece),
-            Part::OfBits(reader) => match reader.feed(piece) {
+            Part::OfBare(reader) => reader.feed(piece),
+            Part::OfJcf(reader) => match reader.feed(piece) {
                 Ok(()) => Ok(()),
                 Err(fault) => Err(over_bits(fault)),
             },
@@ -93,7 +103,8 @@ impl Reader {
     {
         match self.part {
             Part::OfHeaded(reader) => reader.finish(),
-            Part::OfBits(reader) => match reader.finish() {
+            Part::OfBare(reader) => reader.finish(),
+            Part::OfJcf(reader) => match reader.finish() {
                 Ok(m) => Ok(Mzed::of_bits(m)),
                 Err(fault) => Err(over_bits(fault)),
             },

@@ -10,16 +10,19 @@
 //!
 //! Bare text and JCF, which hold matrices over GF(2) alone, are those of `m4_text`.
 //!
-//! `Reader` is fed a text in pieces, and tells the exact place where it goes wrong. Of headed text it keeps the matrix and a place
-//! in it, and no bytes behind the header line; of bare text and JCF it keeps the bytes. `write_text` writes the one text of a matrix
-//! in a form, where `can_write` says that the form can hold it. `write_numbers` writes a line of numbers.
+//! `Reader` is fed a text in pieces, and tells the exact place where it goes wrong. Of headed and bare text it keeps the matrix and a
+//! place in it, and no bytes but those of a header line that isn't whole; of JCF it keeps the bytes. `write_text` writes the one text
+//! of a matrix in a form, where `can_write` says that the form can hold it. `write_numbers` writes a line of numbers.
 #![tactic(auto)]
 
+mod bare;
+mod bare_rows;
 mod base;
 mod bits;
 mod elements;
 mod fault;
 mod fed;
+mod first_line;
 mod form;
 mod form_reader;
 mod gathered;
@@ -42,6 +45,7 @@ mod write;
 pub use fault::{TextFault, WriteFault};
 pub use form::{can_write, write_text};
 pub use form_reader::Reader;
+pub use hex::{HexNumber, hex_number};
 pub use laws::{law_read, law_read_back};
 pub use limits::{MOST_BYTES, MOST_COLS, MOST_ROWS, MOST_WORDS, within_limits};
 pub use m4_model::Form;

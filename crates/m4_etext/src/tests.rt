@@ -84,10 +84,17 @@ fn headed_texts_are_read_and_written(rt: HostRuntime) -> Result<(), Fail> {
 }
 
 /// Bare text and JCF, the headed text of the same matrix, and its text in the first form once more.
-const PLAIN: [(Form, &[u8], &[u8], &[u8]); 6] = [
+const PLAIN: [(Form, &[u8], &[u8], &[u8]); 8] = [
     (Form::Bare, b"", b"gf2 0 0\n", b""),
     (Form::Bare, b"\n\n", b"gf2 2 0\n\n\n", b"\n\n"),
     (Form::Bare, b"10\n01\n", b"gf2 2 2\n10\n01\n", b"10\n01\n"),
+    (Form::Bare, b"011\n", b"gf2 1 3\n011\n", b"011\n"),
+    (
+        Form::Bare,
+        b"1\n0\n0\n1\n1\n",
+        b"gf2 5 1\n1\n0\n0\n1\n1\n",
+        b"1\n0\n0\n1\n1\n",
+    ),
     (Form::Jcf, b"2 2 2 0", b"gf2 2 2\n00\n00\n", b"2 2 2\n0\n"),
     (
         Form::Jcf,
@@ -183,10 +190,15 @@ const REFUSED: [(&[u8], TextFault); 24] = [
 ];
 
 /// Bare texts and JCF that are refused, and why.
-const REFUSED_PLAIN: [(Form, &[u8], TextFault); 10] = [
+const REFUSED_PLAIN: [(Form, &[u8], TextFault); 15] = [
     (Form::Bare, b"1\r\n", TextFault::Bad { at: 1 }),
     (Form::Bare, b"1", TextFault::Bad { at: 1 }),
     (Form::Bare, b"\n1", TextFault::Bad { at: 1 }),
+    (Form::Bare, b"x", TextFault::Bad { at: 0 }),
+    (Form::Bare, b"10\n0", TextFault::Bad { at: 4 }),
+    (Form::Bare, b"10\n01", TextFault::Bad { at: 5 }),
+    (Form::Bare, b"10\n01\n100\n", TextFault::Bad { at: 8 }),
+    (Form::Bare, b"10\n01\n1\n", TextFault::Bad { at: 7 }),
     (Form::Jcf, b"", TextFault::Bad { at: 0 }),
     (Form::Jcf, b"+2 2 2 0", TextFault::Bad { at: 0 }),
     (Form::Jcf, b"2 2 2 0 -1 -2 -1", TextFault::Bad { at: 14 }),
@@ -216,6 +228,36 @@ fn other_texts_are_refused(rt: HostRuntime) -> Result<(), Fail> {
     }
     for case in &REFUSED_PLAIN {
         is_refused_cut(&rt, alloc, case.0, case.1, case.2);
+    }
+    Ok(())
+}
+
+/// Bare texts of one byte so many times and an ending, and why they are refused, if they are.
+const REPEATED: [(u8, usize, &[u8], Option<TextFault>); 6] = [
+    (b'1', 65536, b"\n", None),
+    (b'1', 65536, b"", Some(TextFault::Bad { at: 65536 })),
+    (b'1', 65536, b"1", Some(TextFault::Limit)),
+    (b'\n', 65535, b"\n", None),
+    (b'\n', 65536, b"\n", Some(TextFault::Limit)),
+    (b'\n', 65536, b"1", Some(TextFault::Bad { at: 65536 })),
+];
+
+#[test]
+fn long_bare_texts(rt: HostRuntime) -> Result<(), Fail> {
+    let alloc = rt.alloc();
+    for case in &REPEATED {
+        let mut bytes = Vec::new(alloc);
+        for _ in 0..case.1 {
+            bytes.push(case.0)?;
+        }
+        bytes.extend_from_slice(case.2)?;
+        for cut in &[0, 1000, case.1] {
+            let read = read_cut(alloc, Form::Bare, &bytes, *cut);
+            match case.3 {
+                None => assert!(rt; read.is_ok()),
+                Some(fault) => is_refused(&rt, read, fault),
+            }
+        }
     }
     Ok(())
 }
