@@ -1,3 +1,2 @@
 pub mod EqualLemmas
-pub mod FactorsLemmas
 pub mod ProductLemmas

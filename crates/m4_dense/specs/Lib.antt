@@ -1,7 +1,1 @@
 pub mod Alike
-pub mod Answers
-pub mod Default
-pub mod Elimination
-pub mod Engine
-pub mod Factors
-pub mod FieldEngine

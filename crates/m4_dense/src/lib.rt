@@ -8,25 +8,21 @@
 //! The product of two matrices over one field, of shapes that fit, is `product(alloc, How::default(), &a, &b)?`.
 //!
 //! All of it is there over every field: sums, products, the transpose and the parts of matrices, and the eliminations, which are
-//! the rank, the reduced form, inverses, solutions, the kernel and the factors.
+//! the rank, the reduced form, inverses, solutions, the kernel and the factors. Eliminations and `How` are those of `m4_elim`,
+//! under the same names.
 #![tactic(auto)]
 
-mod chosen;
-mod elimination;
-mod engine;
 mod equal;
-mod factors;
-mod field_engine;
-mod how;
 mod listed;
 mod products;
 mod shapes;
-mod systems;
 
 pub use equal::are_equal;
-pub use factors::{PleFactors, PluqFactors, ple, pluq};
-pub use how::How;
 pub use listed::{from_digits, from_words};
+pub use m4_elim::{
+    How, PleFactors, PluqFactors, inverse, kernel, pivot_form, ple, pluq, rank, reduced_form,
+    solution,
+};
 pub use m4_field::{Field, FieldFault};
 pub use m4_model::{Algo, LEAST_CUTOFF, MOST_CUTOFF, NoMemory};
 pub use m4_mul::{MOST_K, MOST_TABLES};
@@ -36,4 +32,3 @@ pub use m4_perm::Perm;
 pub use m4_solve::{ReducedForm, kernel_of};
 pub use products::{add_product, product};
 pub use shapes::{add_into, augment, rectangle, stack, sum, transpose};
-pub use systems::{inverse, kernel, pivot_form, rank, reduced_form, solution};

@@ -7,11 +7,9 @@ ghost use Rattle.m4_model.specs.Shapes.{HasRoom, with_product};
 ghost use Rattle.m4_model.specs.Shapes.{cut, replace};
 ghost use Rattle.m4_mzd.specs.Reach.{IsReached};
 ghost use Rattle.m4_mzd.specs.Rectangles.{IsInside};
-ghost use Rattle.m4_dense.specs.FieldEngine.{multiplies_over, field_limits};
+ghost use Rattle.m4_elim.specs.FieldEngine.{multiplies_over, field_limits};
 
-use crate::chosen::Chosen;
-use crate::field_engine::{FieldEngine, shape_in_bits};
-use crate::how::How;
+use m4_elim::{FieldEngine, How, product_engine};
 use m4_model::NoMemory;
 use m4_mzd::{Rect, Shape};
 use m4_mzed::Mzed;
@@ -35,12 +33,12 @@ pub fn product(alloc: Global, how: How, a: &Mzed, b: &Mzed) -> Result<Mzed, NoMe
 {
     let _rows = a.rows();
     let _rows_of_b = b.rows();
-    let mut engine = product_engine(alloc, how, a, b)?;
+    let mut engine = engine_for(alloc, how, a, b)?;
     product_by(alloc, &mut engine, a, b)
 }
 
 /// The engine that is asked for, for the product of these matrices.
-fn product_engine(alloc: Global, how: How, a: &Mzed, b: &Mzed) -> Result<FieldEngine, NoMemory>
+fn engine_for(alloc: Global, how: How, a: &Mzed, b: &Mzed) -> Result<FieldEngine, NoMemory>
     ensures for_field { IfOk result (λ engine. multiplies_over engine b.now.field) }
     ensures reached { IfOk result (λ engine. IsReached (field_limits engine) a.now.rows a.now.cols b.now.cols) }
 {
@@ -49,9 +47,7 @@ fn product_engine(alloc: Global, how: How, a: &Mzed, b: &Mzed) -> Result<FieldEn
         l: a.cols(),
         n: b.cols(),
     };
-    let field = b.field();
-    let chosen = Chosen::for_product(how, shape_in_bits(field, shape));
-    FieldEngine::new(alloc, chosen, field, shape)
+    product_engine(alloc, how, b.field(), shape)
 }
 
 /// The product of two matrices by an engine.
@@ -102,7 +98,7 @@ pub fn add_product(
         r1: row + a.rows(),
         c1: col + b.cols(),
     };
-    let mut engine = product_engine(alloc, how, a, b)?;
+    let mut engine = engine_for(alloc, how, a, b)?;
     add_product_by(&mut engine, c, rect, a, b);
     Ok(())
 }

@@ -1,7 +1,7 @@
 -- One more right side.
 use Rattle.std.proofs.Common.{List, [], ◌∷◌, ◌++◌, Option}
 use Rattle.m4_model.specs.Matrix.{Matrix}
-use Rattle.m4_dense.specs.Answers.{TellsSolution}
+use Rattle.m4_elim.specs.Answers.{TellsSolution}
 use Rattle.m4_examples.specs.Solved.{AreSolved}
 
 -- its answer, behind the answers to those before it

@@ -2,7 +2,7 @@
 use Rattle.std.specs.Prelude.{◌≡◌, List, [], ◌∷◌, Option}
 use Rattle.m4_model.specs.Field.{gf2}
 use Rattle.m4_model.specs.Matrix.{Matrix}
-use Rattle.m4_dense.specs.Answers.{TellsSolution}
+use Rattle.m4_elim.specs.Answers.{TellsSolution}
 
 -- B is over GF(2) and as high as A.
 pub record IsSideOf (A B : Matrix) : Type 0 where

@@ -33,7 +33,7 @@ pub struct How {
 }
 
 impl Default for How {
-    ghost use Rattle.m4_dense.specs.Default.{IsOpen};
+    ghost use Rattle.m4_elim.specs.Default.{IsOpen};
 
     ghost is_default = { IsOpen };
 

@@ -2,8 +2,8 @@ use Rattle.std.proofs.Common.{take, min, sym, subst, ap, ◌∙◌, arith}
 use Rattle.m4_model.specs.Matrix.{Matrix}
 use Rattle.m4_mzd.specs.Reach.{IsReached}
 use Rattle.m4_mzed.specs.ESeen.{e_shown}
-use Rattle.m4_dense.proofs.FactorsLemmas.{pluq_made}
-use Rattle.m4_dense.proofs.factors.pluq_in_room.Goals as goal
+use Rattle.m4_elim.proofs.FactorsLemmas.{pluq_made}
+use Rattle.m4_elim.proofs.factors.pluq_in_room.Goals as goal
 
 pub pluq-rank-requires-clause-reached : goal.pluq-rank-requires-clause-reached
 pluq-rank-requires-clause-reached g c =

@@ -4,7 +4,7 @@ ghost use Rattle.std.specs.Prelude.{◌≡◌, ◌≤◌, unwrap_or};
 ghost use Rattle.m4_model.specs.declared.algo.Algo.TheVariants.{Table};
 ghost use Rattle.m4_gray.specs.declared.TheConstants.{MOST_K, MOST_TABLES};
 ghost use Rattle.m4_model.specs.declared.algo.TheConstants.{LEAST_CUTOFF, MOST_CUTOFF};
-ghost use Rattle.m4_dense.specs.Default.{fastest_algo, fastest_k};
+ghost use Rattle.m4_elim.specs.Default.{fastest_algo, fastest_k};
 
 use crate::how::How;
 use m4_model::Algo;

@@ -3,9 +3,9 @@ use Rattle.std.specs.Prelude.{◌≡◌, ⊤}
 use Rattle.m4_model.specs.Field.{Field, gf2}
 use Rattle.m4_mzd.specs.declared.TheConstants.{MOST_SIDE}
 use Rattle.m4_mzd.specs.declared.add_mul.Shape.{Shape}
-use Rattle.m4_dense.specs.Engine.{engine_limits, can_multiply}
-use Rattle.m4_dense.specs.declared.field_engine.FieldEngine.{FieldEngine}
-use Rattle.m4_dense.specs.declared.field_engine.FieldEngine.TheVariants as engines
+use Rattle.m4_elim.specs.Engine.{engine_limits, can_multiply}
+use Rattle.m4_elim.specs.declared.field_engine.FieldEngine.{FieldEngine}
+use Rattle.m4_elim.specs.declared.field_engine.FieldEngine.TheVariants as engines
 
 -- The largest number of each kind that an engine takes.
 abbrev pub field_limits : FieldEngine → Shape

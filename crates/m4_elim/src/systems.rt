@@ -4,7 +4,7 @@ ghost use Rattle.std.specs.Prelude.{◌≡◌, ◌+◌, ◌≤◌, IfOk, length}
 ghost use Rattle.m4_model.specs.Forms.{IsReduced, IsKernel, Reduced};
 ghost use Rattle.m4_model.specs.Rank.{IsRank};
 ghost use Rattle.m4_solve.specs.Reduction.{IsReducedAt};
-ghost use Rattle.m4_dense.specs.Answers.{TellsInverse, TellsSolution};
+ghost use Rattle.m4_elim.specs.Answers.{TellsInverse, TellsSolution};
 
 use crate::elimination::elimination;
 use crate::how::How;

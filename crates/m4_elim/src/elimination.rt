@@ -4,8 +4,8 @@ ghost use Rattle.std.specs.Prelude.{◌≡◌, ◌⊎◌, ◌*◌, ◌≤◌, If
 ghost use Rattle.m4_model.specs.Field.{width};
 ghost use Rattle.m4_field.specs.Fields.{the_field};
 ghost use Rattle.m4_solve.specs.Context.{Serves};
-ghost use Rattle.m4_dense.specs.FieldEngine.{multiplies_over, field_limits};
-ghost use Rattle.m4_dense.specs.Elimination.{factors_over};
+ghost use Rattle.m4_elim.specs.FieldEngine.{multiplies_over, field_limits};
+ghost use Rattle.m4_elim.specs.Elimination.{factors_over};
 
 use crate::chosen::{Chosen, ELIMINATION_CUTOFF};
 use crate::field_engine::{FieldEngine, shape_in_bits};
@@ -40,7 +40,7 @@ impl FieldBase {
 }
 
 impl Base for FieldBase {
-    ghost use Rattle.m4_dense.specs.Elimination.{factors_over};
+    ghost use Rattle.m4_elim.specs.Elimination.{factors_over};
 
     ghost IsFor = { factors_over };
 

@@ -2,7 +2,7 @@
 
 ghost use Rattle.std.specs.Prelude.{◌≡◌, ◌≤◌, IfOk};
 ghost use Rattle.m4_mzd.specs.Reach.{IsReached};
-ghost use Rattle.m4_dense.specs.Engine.{IsEngine, can_multiply, engine_limits};
+ghost use Rattle.m4_elim.specs.Engine.{IsEngine, can_multiply, engine_limits};
 
 use crate::chosen::Chosen;
 use m4_model::{Algo, NoMemory};
@@ -13,7 +13,7 @@ use std::alloc::Global;
 
 /// One of the engines.
 #[derive(Drop)]
-pub(crate) enum Engine {
+pub enum Engine {
     Plain(Plain),
     Table(Table),
     Strassen(Strassen<Table>),
@@ -50,7 +50,7 @@ fn tables(alloc: Global, chosen: Chosen, cols: u32) -> Result<Table, NoMemory>
 }
 
 impl AddMul for Engine {
-    ghost use Rattle.m4_dense.specs.Engine.{can_multiply, engine_limits};
+    ghost use Rattle.m4_elim.specs.Engine.{can_multiply, engine_limits};
 
     ghost limits = { engine_limits };
 

@@ -3,8 +3,8 @@ use Rattle.std.specs.Prelude.{◌≡◌, ℕ, None, nat_le, ◌&&◌, if◌then�
 use Rattle.m4_model.specs.declared.algo.Algo.{Algo}
 use Rattle.m4_model.specs.declared.algo.Algo.TheVariants.{Table, Strassen}
 use Rattle.m4_mzd.specs.declared.add_mul.Shape.{Shape}
-use Rattle.m4_dense.specs.declared.how.How.{How}
-use Rattle.m4_dense.specs.declared.chosen.TheConstants.{HALVES_PAY, LARGE_TABLES_PAY}
+use Rattle.m4_elim.specs.declared.how.How.{How}
+use Rattle.m4_elim.specs.declared.chosen.TheConstants.{HALVES_PAY, LARGE_TABLES_PAY}
 
 -- Nothing is asked for.
 pub record IsOpen (how : How) : Type 0 where

@@ -2,8 +2,8 @@
 use Rattle.std.specs.Prelude.{length}
 use Rattle.m4_model.specs.Matrix.{Matrix}
 use Rattle.m4_model.specs.Factors.{IsPle, IsPluq}
-use Rattle.m4_dense.specs.declared.factors.PleFactors.{PleFactors}
-use Rattle.m4_dense.specs.declared.factors.PluqFactors.{PluqFactors}
+use Rattle.m4_elim.specs.declared.factors.PleFactors.{PleFactors}
+use Rattle.m4_elim.specs.declared.factors.PluqFactors.{PluqFactors}
 
 -- They are a PLE of A.
 abbrev pub IsPleOf : Matrix → PleFactors → Type 0

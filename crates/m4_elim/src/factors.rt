@@ -4,9 +4,9 @@ ghost use Rattle.std.specs.Prelude.{◌≡◌, ◌*◌, ◌≤◌, IfOk, length}
 ghost use Rattle.m4_model.specs.Field.{width};
 ghost use Rattle.m4_field.specs.Fields.{the_field};
 ghost use Rattle.m4_solve.specs.Context.{Serves};
-ghost use Rattle.m4_dense.specs.Elimination.{factors_over};
-ghost use Rattle.m4_dense.specs.Factors.{IsPleOf, IsPluqOf};
-ghost use Rattle.m4_dense.specs.FieldEngine.{multiplies_over, field_limits};
+ghost use Rattle.m4_elim.specs.Elimination.{factors_over};
+ghost use Rattle.m4_elim.specs.Factors.{IsPleOf, IsPluqOf};
+ghost use Rattle.m4_elim.specs.FieldEngine.{multiplies_over, field_limits};
 
 use crate::elimination::{Elimination, elimination};
 use crate::how::How;

@@ -5,10 +5,11 @@ ghost use Rattle.m4_model.specs.Field.{width};
 ghost use Rattle.m4_field.specs.Fields.{the_field};
 ghost use Rattle.m4_mzd.specs.Reach.{IsReached};
 ghost use Rattle.m4_newton.specs.declared.newton.TheConstants.{MOST_STRIP};
-ghost use Rattle.m4_dense.specs.FieldEngine.{multiplies_over, field_limits};
+ghost use Rattle.m4_elim.specs.FieldEngine.{multiplies_over, field_limits};
 
 use crate::chosen::Chosen;
 use crate::engine::Engine;
+use crate::how::How;
 use m4_field::Field;
 use m4_model::{Algo, NoMemory};
 use m4_mzd::{MOST_SIDE, Shape};
@@ -18,7 +19,7 @@ use std::alloc::Global;
 
 /// One of the engines over a field.
 #[derive(Drop)]
-pub(crate) enum FieldEngine {
+pub enum FieldEngine {
     /// Over GF(2): an engine for bits.
     Bits(OverBits<Engine>),
     /// Over an extension field, row by row.
@@ -55,6 +56,24 @@ impl FieldEngine {
     }
 }
 
+/// The engine that is asked for, for products over this field up to a shape. It takes memory for tables, for room in which large
+/// products are worked, and over another field than GF(2) for multiples of rows of the second factor.
+pub fn product_engine(
+    alloc: Global,
+    how: How,
+    field: Field,
+    shape: Shape,
+) -> Result<FieldEngine, NoMemory>
+    requires few_rows { shape.m ≤ MOST_SIDE }
+    requires few_inner { shape.l ≤ MOST_SIDE }
+    requires few_bits { shape.n * width (the_field field) ≤ MOST_SIDE }
+    ensures for_field { IfOk result (λ engine. multiplies_over engine (the_field field)) }
+    ensures reached { IfOk result (λ engine. IsReached (field_limits engine) shape.m shape.l shape.n) }
+{
+    let chosen = Chosen::for_product(how, shape_in_bits(field, shape));
+    FieldEngine::new(alloc, chosen, field, shape)
+}
+
 /// The shape of the products over GF(2) that a product over this field is made of.
 pub(crate) fn shape_in_bits(field: Field, shape: Shape) -> Shape
     requires few_bits { shape.n * width (the_field field) ≤ MOST_SIDE }
@@ -72,7 +91,7 @@ pub(crate) fn shape_in_bits(field: Field, shape: Shape) -> Shape
 }
 
 impl EAddMul for FieldEngine {
-    ghost use Rattle.m4_dense.specs.FieldEngine.{multiplies_over, field_limits};
+    ghost use Rattle.m4_elim.specs.FieldEngine.{multiplies_over, field_limits};
 
     ghost limits = { field_limits };
 

@@ -2,8 +2,8 @@ use Rattle.std.proofs.Common.{take, min, sym, subst, ap, ◌∙◌, arith}
 use Rattle.m4_model.specs.Matrix.{Matrix}
 use Rattle.m4_mzd.specs.Reach.{IsReached}
 use Rattle.m4_mzed.specs.ESeen.{e_shown}
-use Rattle.m4_dense.proofs.FactorsLemmas.{ple_made}
-use Rattle.m4_dense.proofs.factors.ple_in_room.Goals as goal
+use Rattle.m4_elim.proofs.FactorsLemmas.{ple_made}
+use Rattle.m4_elim.proofs.factors.ple_in_room.Goals as goal
 
 pub ple_by_halves-rank-requires-clause-reached : goal.ple_by_halves-rank-requires-clause-reached
 ple_by_halves-rank-requires-clause-reached g c =

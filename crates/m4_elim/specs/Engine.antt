@@ -6,8 +6,8 @@ use Rattle.m4_model.specs.declared.algo.Algo.TheVariants as algos
 use Rattle.m4_mzd.specs.declared.TheConstants.{MOST_SIDE}
 use Rattle.m4_mzd.specs.declared.add_mul.Shape.{Shape}
 use Rattle.m4_strassen.specs.Engine.{CanRecurse}
-use Rattle.m4_dense.specs.declared.engine.Engine.{Engine}
-use Rattle.m4_dense.specs.declared.engine.Engine.TheVariants as engines
+use Rattle.m4_elim.specs.declared.engine.Engine.{Engine}
+use Rattle.m4_elim.specs.declared.engine.Engine.TheVariants as engines
 
 -- The largest number of each kind that tables of so many columns take.
 abbrev pub table_limits : ℕ → Shape
