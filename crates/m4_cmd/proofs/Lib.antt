@@ -3,3 +3,4 @@ pub mod StepLemmas
 pub mod BasisLemmas
 mod PartLemmas
 mod FileLemmas
+mod OnesLemmas

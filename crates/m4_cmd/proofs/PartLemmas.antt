@@ -1,7 +1,7 @@
 -- Texts that are written in two parts.
 use Rattle.std.proofs.Common.{◌≡◌, ℕ, List, ◌++◌, Option, Result, Ok, Err, ap, sym, ◌∙◌, subst}
 use Rattle.m4_model.specs.NumberLines.{numbers_line}
-use Rattle.m4_outcome.specs.Outcome.{rank_line}
+use Rattle.m4_outcome.specs.RankLines.{rank_line}
 use Rattle.m4_io.specs.Outside.{WritesAll}
 use Rattle.m4_io.proofs.Writing.{writes_both, writes_stopped}
 use Rattle.m4_cmd.specs.Factors.{rows_line}

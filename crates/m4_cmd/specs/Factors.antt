@@ -2,8 +2,8 @@
 use Rattle.std.specs.Prelude.{ℕ, List, length, codes}
 use Rattle.m4_model.specs.NumberLines.{numbers_line}
 use Rattle.m4_outcome.specs.Outcome.{factors_text}
-use Rattle.m4_dense.specs.declared.factors.PleFactors.{PleFactors}
-use Rattle.m4_dense.specs.declared.factors.PluqFactors.{PluqFactors}
+use Rattle.m4_elim.specs.declared.factors.PleFactors.{PleFactors}
+use Rattle.m4_elim.specs.declared.factors.PluqFactors.{PluqFactors}
 
 -- The line of the rows' order.
 abbrev pub rows_line : List ℕ → List ℕ

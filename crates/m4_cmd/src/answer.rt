@@ -2,6 +2,7 @@
 
 ghost use Rattle.std.specs.Prelude.{◌≡◌, IfOk, IfErr};
 ghost use Rattle.m4_outcome.specs.Outcome.{HasAnswer, status_of};
+ghost use Rattle.m4_outcome.specs.Seeds.{HasField};
 ghost use Rattle.m4_cmd.specs.Answer.{answer_told};
 ghost use Rattle.m4_cmd.specs.Steps.{AnswerFails, answer_status};
 
@@ -20,6 +21,8 @@ pub(crate) enum Answer {
     Matrix(Mzed),
     /// A rank.
     Rank(u32),
+    /// The rank of a generated matrix, and how many entries of its reduced form aren't zero.
+    Trial { rank: u32, nonzeros: u64 },
     /// A PLE.
     Ple(PleFactors),
     /// A PLUQ.
@@ -84,6 +87,7 @@ pub(crate) fn answer_of(
     how: How,
     operands: &mut [Mzed],
 ) -> Result<Answer, AnswerFault>
+    requires field { HasField command }
     ensures good { IfOk result (λ answer. HasAnswer command operands.old (answer_told answer)) }
     ensures fails { IfErr result (AnswerFails command operands.old) }
 {

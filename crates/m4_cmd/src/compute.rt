@@ -2,10 +2,12 @@
 
 ghost use Rattle.std.specs.Prelude.{◌≡◌, IfOk, IfErr, [], ◌∷◌};
 ghost use Rattle.m4_outcome.specs.Outcome.{Fits, InKnownBounds, HasAnswer, ShareField};
+ghost use Rattle.m4_outcome.specs.Seeds.{HasField};
 ghost use Rattle.m4_cmd.specs.Answer.{answer_told};
 ghost use Rattle.m4_cmd.specs.Steps.{AnswerFails};
 
 use crate::answer::{Answer, AnswerFault};
+use crate::generated::{matrix_of, trial_of};
 use crate::systems::{basis_of, inverse_of, solution_of};
 use m4_dense::{
     How, Mzd, Mzed, Rect, add_into, add_product, augment, ple, pluq, product, rank, rectangle,
@@ -23,6 +25,7 @@ pub(crate) fn compute(
     how: How,
     operands: &mut [Mzed],
 ) -> Result<Answer, AnswerFault>
+    requires field { HasField command }
     requires shared { ShareField operands.old }
     requires fits { Fits command operands.old }
     requires bounds { InKnownBounds command operands.old }
@@ -31,7 +34,22 @@ pub(crate) fn compute(
 {
     match operands.split_first_mut() {
         Some((first, others)) => of_some(alloc, command, how, first, others),
-        None => unreachable!(),
+        None => of_none(alloc, command, how),
+    }
+}
+
+/// The answer of a command that has no operands.
+fn of_none(alloc: Global, command: Command, how: How) -> Result<Answer, AnswerFault>
+    requires field { HasField command }
+    requires fits { Fits command [] }
+    requires bounds { InKnownBounds command [] }
+    ensures good { IfOk result (λ answer. HasAnswer command [] (answer_told answer)) }
+    ensures fails { IfErr result (AnswerFails command []) }
+{
+    match command {
+        Command::Make(seeded) => Ok(Answer::Matrix(matrix_of(alloc, seeded)?)),
+        Command::Trial(seeded) => Ok(trial_of(alloc, how, seeded)?),
+        _ => unreachable!(),
     }
 }
 

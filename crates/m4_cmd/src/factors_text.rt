@@ -2,7 +2,8 @@
 
 ghost use Rattle.std.specs.Prelude.{◌≤◌, ◌++◌, length};
 ghost use Rattle.m4_model.specs.NumberLines.{numbers_line};
-ghost use Rattle.m4_outcome.specs.Outcome.{factors_text, rank_line};
+ghost use Rattle.m4_outcome.specs.Outcome.{factors_text};
+ghost use Rattle.m4_outcome.specs.RankLines.{rank_line};
 ghost use Rattle.m4_model.specs.Headed.{headed_text};
 ghost use Rattle.m4_io.specs.Outside.{WritesAll};
 ghost use Rattle.m4_cmd.specs.Factors.{ple_text, pluq_text, rows_line};

@@ -5,7 +5,7 @@ ghost use Rattle.m4_model.specs.Shapes.{HasRoom};
 ghost use Rattle.m4_outcome.specs.Outcome.{AreOver, Fits, HasRectangle, ShareField};
 ghost use Rattle.m4_field.specs.Fields.{the_field};
 
-use m4_dense::{Field, Mzed};
+use m4_dense::{Field, Mzed, Rect};
 use m4_outcome::Command;
 
 /// Whether the matrices are over one field.
@@ -57,10 +57,19 @@ pub(crate) fn fits(command: Command, operands: &[Mzed]) -> bool
                 col_end,
             },
             [a],
-        ) => has_rectangle(a, row, col, row_end, col_end),
+        ) => {
+            let rect = Rect {
+                r0: row,
+                c0: col,
+                r1: row_end,
+                c1: col_end,
+            };
+            has_rectangle(a, rect)
+        }
         (Command::Inverse, [a]) => a.cols() == a.rows(),
         (Command::Transpose | Command::Convert | Command::Rank, [_]) => true,
         (Command::Echelon | Command::Kernel | Command::Ple | Command::Pluq, [_]) => true,
+        (Command::Make(_) | Command::Trial(_), []) => true,
         _ => false,
     }
 }
@@ -78,9 +87,9 @@ fn has_room(c: &Mzed, row: u32, col: u32, rows: u32, cols: u32) -> bool
         && col * c.field().width() % 64 == 0
 }
 
-/// Whether rows `row` to `row_end - 1` and columns `col` to `col_end - 1` are those of a rectangle of `a`.
-fn has_rectangle(a: &Mzed, row: u32, col: u32, row_end: u32, col_end: u32) -> bool
-    ensures { IsTrue result ↔ HasRectangle a.now row col row_end col_end }
+/// Whether this is a rectangle of `a`.
+fn has_rectangle(a: &Mzed, rect: Rect) -> bool
+    ensures { IsTrue result ↔ HasRectangle a.now rect.r0 rect.c0 rect.r1 rect.c1 }
 {
-    row <= row_end && col <= col_end && row_end <= a.rows() && col_end <= a.cols()
+    rect.check(a.rows(), a.cols(), 1).is_ok()
 }

@@ -1,11 +1,11 @@
-//! Short lines, put together on the stack.
+//! Short texts of a line or two, put together on the stack.
 
 ghost use Rattle.std.specs.Prelude.{◌≡◌, ◌+◌, ◌≤◌, ◌++◌, length, decimal};
-ghost use Rattle.m4_outcome.specs.Outcome.{rank_line};
+ghost use Rattle.m4_outcome.specs.RankLines.{rank_line, trial_text};
 
 use arrayvec::ArrayString;
 
-/// Room for the longest line, which has two numbers of twenty digits.
+/// Room for the longest text of them, which has two numbers of twenty digits.
 const LINE_ROOM: usize = 96;
 
 /// A line, on the stack.
@@ -23,12 +23,24 @@ pub(crate) fn plain_line(text: &str) -> Line
 
 /// The line of a rank.
 pub(crate) fn rank_line(rank: u64) -> Line
-    ensures { result.bytes ≡ rank_line rank }
+    ensures line { result.bytes ≡ rank_line rank }
+    ensures room { length result.bytes ≤ 26 }
 {
     let mut line = plain_line("rank ");
     push_number(&mut line, rank);
     push(&mut line, "\n");
     line
+}
+
+/// The lines of a trial: the rank, and how many entries of the reduced form aren't zero.
+pub(crate) fn trial_lines(rank: u64, nonzeros: u64) -> Line
+    ensures { result.bytes ≡ trial_text rank nonzeros }
+{
+    let mut lines = rank_line(rank);
+    push(&mut lines, "nonzeros ");
+    push_number(&mut lines, nonzeros);
+    push(&mut lines, "\n");
+    lines
 }
 
 /// Adds a text at the end.

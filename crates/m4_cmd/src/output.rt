@@ -7,7 +7,7 @@ ghost use Rattle.m4_cmd.specs.Steps.{OutputFails, Wrote, output_status};
 
 use crate::answer::Answer;
 use crate::factors_text::{write_ple, write_pluq};
-use crate::line::{plain_line, rank_line};
+use crate::line::{plain_line, rank_line, trial_lines};
 use m4_dense::Mzed;
 use m4_etext::{WriteFault, can_write, write_text};
 use m4_io::{Failed, Sink, write_whole};
@@ -77,6 +77,9 @@ pub(crate) fn write_answer<O: Sink>(
     match answer {
         Answer::Matrix(matrix) => return write_matrix(matrix, form, out),
         Answer::Rank(rank) => write_whole(out, rank_line(u64::from(rank)).as_bytes())?,
+        Answer::Trial { rank, nonzeros } => {
+            write_whole(out, trial_lines(u64::from(rank), nonzeros).as_bytes())?
+        }
         Answer::Ple(factors) => write_ple(factors, out)?,
         Answer::Pluq(factors) => write_pluq(factors, out)?,
         Answer::Singular => write_whole(out, plain_line("singular\n").as_bytes())?,

@@ -1,5 +1,6 @@
 ghost use Rattle.std.specs.Prelude.{◌≡◌, ◌<◌, ◌⊎◌, ◌↔◌, ℕ, Some, Err};
 ghost use Rattle.std.specs.Io.KnownBytes.{Keeps};
+ghost use Rattle.m4_outcome.specs.Seeds.{HasField};
 ghost use Rattle.m4_outcome.specs.Words.{job};
 ghost use Rattle.m4_model.specs.Stock.{Stock};
 ghost use Rattle.m4_io.specs.Outside.{Rose};
@@ -24,7 +25,7 @@ use std::alloc::Global;
 ///
 /// The words are those after the program's name. Each file operand in order is read to its end, or to its first
 /// fault, before the next. The first refusal is the answer, in this order: the words; each operand's reading, its
-/// text, its field and its limits; a command that isn't there for the fields; the shapes; the limits of the answer; an answer that
+/// text, its field and its limits; the fields and the shapes; the limits of the answer; an answer that
 /// its form can't hold; the writing. Where no answer is begun, nothing is written to `out`.
 pub fn run<S: Shelf, O: Sink, R: Sink, G: Gate + Sync>(
     alloc: Global,
@@ -97,6 +98,7 @@ fn work<S: Shelf, O: Sink>(alloc: Global, words: &[String], shelf: &mut S, out: 
 
 /// Does a job: reads its operands, computes its answer, and writes it.
 fn perform<S: Shelf, O: Sink>(alloc: Global, job: &Job, shelf: &mut S, out: &mut O) -> Status
+    requires field { HasField job.now.command }
     ensures stock { S.stock shelf.new ≡ S.stock shelf.old }
     ensures gives { JobGives (S.stock shelf.old) (job_told job.now) (record {
       read_before = S.faults shelf.old;

@@ -1,3 +1,6 @@
+pub mod FieldWordLemmas
+pub mod JobLemmas
 mod WordsExamples
 mod SharedExamples
 mod FactorsExamples
+mod SeedExamples

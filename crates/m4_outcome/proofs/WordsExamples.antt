@@ -5,7 +5,9 @@ use Rattle.m4_model.specs.declared.algo.Algo.TheVariants.{Strassen}
 use Rattle.m4_model.specs.declared.form.Form.{Form}
 use Rattle.m4_model.specs.declared.form.Form.TheVariants.{Headed, Bare, Jcf, Hex}
 use Rattle.m4_outcome.specs.declared.command.Command.{Command}
-use Rattle.m4_outcome.specs.declared.command.Command.TheVariants.{Mul, Addmul, Sub, Convert, Ple, Pluq}
+use Rattle.m4_outcome.specs.declared.command.Command.TheVariants.{Mul, Addmul, Sub, Convert, Ple, Pluq, Make, Trial}
+use Rattle.m4_model.specs.Field.{clmul, sum_below, bits_within}
+use Rattle.m4_outcome.specs.FieldWords.{some_below}
 use Rattle.m4_outcome.specs.Words.{Job, job, understand}
 
 -- the job of a command on these files, with these forms
@@ -125,3 +127,25 @@ no_number = refl
 a_place_missing : job (codes "addmul" ∷ codes "C" ∷ codes "1" ∷ []) ≡ Err 4
 unfolding job understand digits
 a_place_missing = refl
+
+a_generated_matrix : job (codes "make" ∷ codes "2:7" ∷ codes "1" ∷ codes "--out=hex" ∷ codes "4" ∷ codes "9999999999" ∷ [])
+    ≡ asks (Make (record { degree = 2; poly = 7; rows = 1; cols = 4; seed = 9999999999 })) [] None (Some Hex)
+unfolding job understand digits asks some_below clmul sum_below bits_within
+a_generated_matrix = refl
+
+a_trial_of_bits : job (codes "trial" ∷ codes "gf2" ∷ codes "0" ∷ codes "5" ∷ codes "7" ∷ [])
+    ≡ asks (Trial (record { degree = 1; poly = 2; rows = 0; cols = 5; seed = 7 })) [] None None
+unfolding job understand digits asks
+a_trial_of_bits = refl
+
+no_field : job (codes "make" ∷ codes "2:5" ∷ codes "1" ∷ codes "1" ∷ codes "0" ∷ []) ≡ Err 2
+unfolding job understand digits some_below clmul sum_below bits_within
+no_field = refl
+
+no_seed : job (codes "make" ∷ codes "gf2" ∷ codes "1" ∷ codes "1" ∷ []) ≡ Err 5
+unfolding job understand digits
+no_seed = refl
+
+a_seed_with_a_zero_before_it : job (codes "trial" ∷ codes "gf2" ∷ codes "1" ∷ codes "1" ∷ codes "00" ∷ []) ≡ Err 5
+unfolding job understand digits
+a_seed_with_a_zero_before_it = refl

@@ -1,2 +1,5 @@
+pub mod FieldWords
 pub mod Words
+pub mod RankLines
+pub mod Seeds
 pub mod Outcome

@@ -1,6 +1,6 @@
 -- What a run of the program has to answer: its status and its text, from its words and the files at hand.
 use Rattle.std.specs.Prelude.{◌≡◌, ℕ, ◌+◌, ◌-◌, ◌*◌, ◌%◌, ◌≤◌, ◌⊎◌, List, [], ◌∷◌, ◌++◌, length, All, Option, Some, None, option_map, flat_map, find, bytes_eq, Ok, Err, codes, decimal}
-use Rattle.m4_model.specs.Field.{Field, width}
+use Rattle.m4_model.specs.Field.{Field, width, width_of}
 use Rattle.m4_model.specs.Matrix.{Matrix, added, product}
 use Rattle.m4_model.specs.Shapes.{transposed, above, beside, LiesInside, cut, HasRoom, with_product}
 use Rattle.m4_model.specs.Rank.{IsRank}
@@ -11,10 +11,12 @@ use Rattle.m4_model.specs.NumberLines.{numbers_line}
 use Rattle.m4_model.specs.Text.{IsWithinLimits}
 use Rattle.m4_model.specs.Headed.{headed_text, Fault, BadAt, BadDegreeAt, ReducibleAt, PastLimit}
 use Rattle.m4_model.specs.FormTexts.{can_hold, text_as, ReadsAs, RefusalAs}
+use Rattle.m4_outcome.specs.RankLines.{rank_line}
+use Rattle.m4_outcome.specs.Seeds.{seeded_matrix, IsTrialText}
 use Rattle.m4_outcome.specs.Words.{Job, job, form_of_files, form_of_answer}
 use Rattle.m4_model.specs.declared.form.Form.{Form}
 use Rattle.m4_outcome.specs.declared.command.Command.{Command}
-use Rattle.m4_outcome.specs.declared.command.Command.TheVariants.{Mul, Addmul, Add, Transpose, Stack, Augment, Sub, Convert, Rank, Echelon, Inverse, Solve, Kernel, Ple, Pluq}
+use Rattle.m4_outcome.specs.declared.command.Command.TheVariants.{Mul, Addmul, Add, Transpose, Stack, Augment, Sub, Convert, Rank, Echelon, Inverse, Solve, Kernel, Ple, Pluq, Make, Trial}
 use Rattle.m4_outcome.specs.declared.status.Status.{Status}
 use Rattle.m4_outcome.specs.declared.status.Status.TheVariants.{Done, No, Words, Text, Shape, Limit, Read, Write, Memory}
 
@@ -78,11 +80,13 @@ Fits Solve (A ∷ B ∷ []) = A.rows ≡ B.rows
 Fits Kernel (A ∷ []) = Unit {0}
 Fits Ple (A ∷ []) = Unit {0}
 Fits Pluq (A ∷ []) = Unit {0}
+Fits (Make seeded) [] = Unit {0}
+Fits (Trial seeded) [] = Unit {0}
 Fits command other = ⊥
 
 -- The shape of the answer is within the limits, for a command whose answer's shape is known from the operands' shapes. An
--- answer no larger than an operand always is. The shape of a solution counts also where there is none, and that of the
--- factor L beside the other factor, which is as large as the operand.
+-- answer no larger than an operand always is. The shape of a solution counts also where there is none, that of the
+-- factor L beside the other factor, which is as large as the operand, and that of a generated matrix.
 abbrev pub InKnownBounds : Command → List Matrix → Type 0
 InKnownBounds Mul (A ∷ B ∷ []) = IsWithinLimits (width A.field) A.rows B.cols
 InKnownBounds Transpose (A ∷ []) = IsWithinLimits (width A.field) A.cols A.rows
@@ -91,6 +95,8 @@ InKnownBounds Augment (A ∷ B ∷ []) = IsWithinLimits (width A.field) A.rows (
 InKnownBounds Solve (A ∷ B ∷ []) = IsWithinLimits (width A.field) A.cols B.cols
 InKnownBounds Ple (A ∷ []) = IsWithinLimits (width A.field) A.rows A.rows
 InKnownBounds Pluq (A ∷ []) = IsWithinLimits (width A.field) A.rows A.rows
+InKnownBounds (Make seeded) [] = IsWithinLimits (width_of seeded.degree) seeded.rows seeded.cols
+InKnownBounds (Trial seeded) [] = IsWithinLimits (width_of seeded.degree) seeded.rows seeded.cols
 InKnownBounds command other = Unit {0}
 
 -- The shape of the answer is within the limits. A kernel's has a row for each free column, as many as the rank leaves.
@@ -121,10 +127,6 @@ abbrev pub IsMatrixOrNone : (Matrix → Type 0) → Type 0 → List ℕ → Answ
 IsMatrixOrNone property cause line (OneMatrix R) = property R
 IsMatrixOrNone property cause line (Lines lines) = ⊥
 IsMatrixOrNone property cause line (NoAnswer said) = cause × (said ≡ line)
-
--- The line of a rank.
-abbrev pub rank_line : ℕ → List ℕ
-rank_line r = codes "rank " ++ (decimal r ++ codes "\n")
 
 -- The text of factors of a matrix: a line with the rank, one with the order of the rows, one that tells of columns, and
 -- the two factors as headed texts.
@@ -167,6 +169,8 @@ IsAnswer Solve (A ∷ B ∷ []) answer = IsMatrixOrNone (λ X. IsSolution X A B)
 IsAnswer Kernel (A ∷ []) answer = IsMatrixWith (λ K. IsKernel K A) answer
 IsAnswer Ple (A ∷ []) answer = AreLinesWith (IsPleText A) answer
 IsAnswer Pluq (A ∷ []) answer = AreLinesWith (IsPluqText A) answer
+IsAnswer (Make seeded) [] answer = answer ≡ OneMatrix (seeded_matrix seeded)
+IsAnswer (Trial seeded) [] answer = AreLinesWith (IsTrialText (seeded_matrix seeded)) answer
 IsAnswer command other answer = ⊥
 
 -- The status of an answer.

@@ -3,10 +3,13 @@ use Rattle.std.specs.Prelude.{◌==◌, ℕ, suc, ◌^◌, List, [], ◌∷◌, 
 use Rattle.std.specs.Option.{option_and_then}
 use Rattle.std.specs.List.{starts_with, before_first, after_first}
 use Rattle.std.specs.Str.Parse.{digits_value}
+use Rattle.m4_model.specs.Field.{Field}
+use Rattle.m4_outcome.specs.FieldWords.{number_of, seed_of, field_named}
+use Rattle.m4_outcome.specs.declared.command.Seeded.{Seeded}
 use Rattle.m4_outcome.specs.declared.command.Command.{Command}
-use Rattle.m4_outcome.specs.declared.command.Command.TheVariants.{Mul, Addmul, Add, Transpose, Stack, Augment, Sub, Convert, Rank, Echelon, Inverse, Solve, Kernel, Ple, Pluq}
+use Rattle.m4_outcome.specs.declared.command.Command.TheVariants.{Mul, Addmul, Add, Transpose, Stack, Augment, Sub, Convert, Rank, Echelon, Inverse, Solve, Kernel, Ple, Pluq, Make, Trial}
 use Rattle.m4_outcome.specs.declared.command.Kind.{Kind}
-use Rattle.m4_outcome.specs.declared.command.Kind.TheVariants.{FileName, Number}
+use Rattle.m4_outcome.specs.declared.command.Kind.TheVariants.{FileName, Number, FieldName, Seed}
 use Rattle.m4_model.specs.declared.algo.Algo.{Algo}
 use Rattle.m4_model.specs.declared.algo.Algo.TheVariants.{Plain, Table, Strassen}
 use Rattle.m4_model.specs.declared.form.Form.{Form}
@@ -19,6 +22,10 @@ pub record Job : Type 0 where
   pub command : Command
   pub files : List (List ℕ)
   pub choices : Choices
+
+-- A generated matrix with zeros in the places of all that names it.
+abbrev pub not_seeded : Seeded
+not_seeded = record { degree = 0; poly = 0; rows = 0; cols = 0; seed = 0 }
 
 -- The command that a word names, with zeros in the places of its numbers.
 abbrev pub command_named : List ℕ → Option Command
@@ -38,6 +45,8 @@ command_named word =
     else if bytes_eq word (codes "kernel") then Some Kernel
     else if bytes_eq word (codes "ple") then Some Ple
     else if bytes_eq word (codes "pluq") then Some Pluq
+    else if bytes_eq word (codes "make") then Some (Make not_seeded)
+    else if bytes_eq word (codes "trial") then Some (Trial not_seeded)
     else None
 
 -- The places behind the word that names the command, in order.
@@ -49,18 +58,20 @@ kinds_of Stack = FileName ∷ FileName ∷ []
 kinds_of Augment = FileName ∷ FileName ∷ []
 kinds_of (Sub row col row_end col_end) = FileName ∷ Number ∷ Number ∷ Number ∷ Number ∷ []
 kinds_of Solve = FileName ∷ FileName ∷ []
+kinds_of (Make seeded) = FieldName ∷ Number ∷ Number ∷ Seed ∷ []
+kinds_of (Trial seeded) = FieldName ∷ Number ∷ Number ∷ Seed ∷ []
 kinds_of command = FileName ∷ []
 
--- The command with these numbers in its places, which are as many.
-abbrev pub with_numbers : Command → List ℕ → Command
-with_numbers (Addmul none nowhere) (row ∷ col ∷ []) = Addmul row col
-with_numbers (Sub none nowhere no_end nowhere_else) (row ∷ col ∷ row_end ∷ col_end ∷ []) = Sub row col row_end col_end
-with_numbers command numbers = command
-
--- The number that a word is: it is in decimal, as `0`, or a digit from 1 to 9 and at most eight more.
-abbrev pub number_of : List ℕ → Option ℕ
-number_of word =
-    if nat_lt (digits_value 10 word) (10 ^ 9) && bytes_eq word (decimal (digits_value 10 word)) then Some (digits_value 10 word) else None
+-- The command with these numbers in its places, which are as many, and with this seed. A field has two numbers, its degree
+-- and its polynomial.
+abbrev pub with_numbers : Command → List ℕ → ℕ → Command
+with_numbers (Addmul none nowhere) (row ∷ col ∷ []) seed = Addmul row col
+with_numbers (Sub none nowhere no_end nowhere_else) (row ∷ col ∷ row_end ∷ col_end ∷ []) seed = Sub row col row_end col_end
+with_numbers (Make unnamed) (degree ∷ poly ∷ rows ∷ cols ∷ []) seed =
+    Make (record { degree = degree; poly = poly; rows = rows; cols = cols; seed = seed })
+with_numbers (Trial unnamed) (degree ∷ poly ∷ rows ∷ cols ∷ []) seed =
+    Trial (record { degree = degree; poly = poly; rows = rows; cols = cols; seed = seed })
+with_numbers command numbers seed = command
 
 -- The number that a value is, if it lies between these two.
 abbrev pub number_between : ℕ → ℕ → List ℕ → Option ℕ
@@ -123,11 +134,12 @@ is_option word = starts_with nat_eq word (codes "--")
 abbrev pub is_equals_sign : ℕ → Bool
 is_equals_sign byte = byte == 61
 
--- What the words tell that have been read: the places that are still wanted, the numbers and the files of those that
--- are filled, and what the options choose.
+-- What the words tell that have been read: the places that are still wanted, the numbers, the seed and the files of those
+-- that are filled, and what the options choose. The seed is 0 until it is told.
 pub record Understood : Type 0 where
   pub wanted : List Kind
   pub numbers : List ℕ
+  pub seed : ℕ
   pub files : List (List ℕ)
   pub choices : Choices
 
@@ -142,6 +154,9 @@ and_operand [] word so_far = None
 and_operand (FileName ∷ kinds) word so_far = Some (record so_far { wanted = kinds; files = so_far.files ++ word ∷ [] })
 and_operand (Number ∷ kinds) word so_far =
     option_map (λ n. record so_far { wanted = kinds; numbers = so_far.numbers ++ n ∷ [] }) (number_of word)
+and_operand (FieldName ∷ kinds) word so_far =
+    option_map (λ F. record so_far { wanted = kinds; numbers = so_far.numbers ++ F.degree ∷ F.poly ∷ [] }) (field_named word)
+and_operand (Seed ∷ kinds) word so_far = option_map (λ n. record so_far { wanted = kinds; seed = n }) (seed_of word)
 
 -- One more word, which is an option or an operand, if it is understood.
 abbrev pub and_word : List ℕ → Understood → Option Understood
@@ -165,11 +180,11 @@ understand number (word ∷ words) so_far = and_then number (and_word word so_fa
 
 -- What is told before any word behind the first.
 abbrev pub begun : Command → Understood
-begun command = record { wanted = kinds_of command; numbers = []; files = []; choices = none_given }
+begun command = record { wanted = kinds_of command; numbers = []; seed = 0; files = []; choices = none_given }
 
 -- The job of a command with what the words behind its name tell.
 abbrev pub job_of : Command → Result Understood ℕ → Result Job ℕ
-job_of command (Ok all) = Ok (record { command = with_numbers command all.numbers; files = all.files; choices = all.choices })
+job_of command (Ok all) = Ok (record { command = with_numbers command all.numbers all.seed; files = all.files; choices = all.choices })
 job_of command (Err word) = Err word
 
 -- The job of the words behind the first.

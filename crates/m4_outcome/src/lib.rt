@@ -9,5 +9,5 @@ mod command;
 mod status;
 
 pub use choices::Choices;
-pub use command::{Command, Kind};
+pub use command::{Command, Kind, Seeded};
 pub use status::Status;

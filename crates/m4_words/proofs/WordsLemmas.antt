@@ -9,28 +9,41 @@ use Rattle.std.proofs.lemmas.Slice.Eq.{bytes_eq-Decides}
 use Rattle.std.proofs.lemmas.Fmt.{decimal_is_IsNumeral}
 use Rattle.m4_outcome.specs.declared.command.Command.{Command}
 use Rattle.m4_outcome.specs.declared.command.Kind.{Kind}
-use Rattle.m4_outcome.specs.Words.{Understood, understand, and_word, number_of, job, job_of, job_behind, command_named, begun}
+use Rattle.m4_outcome.specs.FieldWords.{decimal_below, number_of, seed_of}
+use Rattle.m4_outcome.specs.Words.{Understood, understand, and_word, job, job_of, job_behind, command_named, begun}
 use Rattle.m4_words.specs.Texts.{texts}
 
 -- a word in decimal
-pub number-decimal : (word : List ℕ) (n : ℕ) → n < 10 ^ 9 → word ≡ decimal n → number_of word ≡ Some n
-number-decimal word n small is =
+pub decimal-some : (most : ℕ) → most ≤ 2 ^ 64 → (word : List ℕ) (n : ℕ) → n < most → word ≡ decimal n → decimal_below most word ≡ Some n
+decimal-some most few word n small is =
     let value : digits_value 10 word ≡ n = ap (digits_value 10) is ∙ (decimal_is_IsNumeral n (omega arith)).1 in
-    let less = lt-ltb n (10 ^ 9) small in
+    let less = lt-ltb n most small in
     let same = (bytes_eq-Decides word (decimal n)).1 is in
     rw (value, less, same) refl
 
 -- a word that is no number in decimal
-pub number-none : (word : List ℕ) → ((n : ℕ) → n < 10 ^ 9 → word ≡ decimal n → ⊥) → number_of word ≡ None
-number-none word none = cases (nat_lt n (10 ^ 9)) (bytes_eq word (decimal n)) refl refl
+pub decimal-none : (most : ℕ) (word : List ℕ) → ((n : ℕ) → n < most → word ≡ decimal n → ⊥) → decimal_below most word ≡ None
+decimal-none most word none = cases (nat_lt n most) (bytes_eq word (decimal n)) refl refl
   where
     n : ℕ
     n = digits_value 10 word
 
-    cases : (small same : Bool) → nat_lt n (10 ^ 9) ≡ small → bytes_eq word (decimal n) ≡ same → cond (small && same) (Some n) None ≡ None
+    cases : (small same : Bool) → nat_lt n most ≡ small → bytes_eq word (decimal n) ≡ same → cond (small && same) (Some n) None ≡ None
     cases false same is_small is_same = refl
     cases true false is_small is_same = refl
-    cases true true is_small is_same = absurd (none n (ltb-true n (10 ^ 9) is_small) ((bytes_eq-Decides word (decimal n)).0 is_same))
+    cases true true is_small is_same = absurd (none n (ltb-true n most is_small) ((bytes_eq-Decides word (decimal n)).0 is_same))
+
+pub number-decimal : (word : List ℕ) (n : ℕ) → n < 10 ^ 9 → word ≡ decimal n → number_of word ≡ Some n
+number-decimal = decimal-some (10 ^ 9) (omega arith)
+
+pub number-none : (word : List ℕ) → ((n : ℕ) → n < 10 ^ 9 → word ≡ decimal n → ⊥) → number_of word ≡ None
+number-none = decimal-none (10 ^ 9)
+
+pub seed-decimal : (word : List ℕ) (n : ℕ) → n < 2 ^ 64 → word ≡ decimal n → seed_of word ≡ Some n
+seed-decimal = decimal-some (2 ^ 64) (omega arith)
+
+pub seed-none : (word : List ℕ) → ((n : ℕ) → n < 2 ^ 64 → word ≡ decimal n → ⊥) → seed_of word ≡ None
+seed-none = decimal-none (2 ^ 64)
 
 -- the text of a word
 text_at : (words : List (String Global)) (i : ℕ) (word : String Global) → i < length words → get_or words i word ≡ word → get_or (texts words) i [] ≡ string_bytes word

@@ -3,7 +3,7 @@
 ghost use Rattle.std.specs.Prelude.{◌≡◌};
 ghost use Rattle.m4_outcome.specs.Words.{command_named, kinds_of, with_numbers};
 
-use m4_outcome::{Command, Kind};
+use m4_outcome::{Command, Kind, Seeded};
 
 /// The command that a word names, with zeros in the places of its numbers.
 pub(crate) fn command_named(word: &str) -> Option<Command>
@@ -30,6 +30,8 @@ pub(crate) fn command_named(word: &str) -> Option<Command>
         "kernel" => Some(Command::Kernel),
         "ple" => Some(Command::Ple),
         "pluq" => Some(Command::Pluq),
+        "make" => Some(Command::Make(Seeded::NONE)),
+        "trial" => Some(Command::Trial(Seeded::NONE)),
         _ => None,
     }
 }
@@ -64,12 +66,15 @@ pub(crate) fn kinds_of(command: Command) -> &'static [Kind]
         | Command::Kernel
         | Command::Ple
         | Command::Pluq => &[Kind::FileName],
+        Command::Make(_) | Command::Trial(_) => {
+            &[Kind::FieldName, Kind::Number, Kind::Number, Kind::Seed]
+        }
     }
 }
 
-/// The command with these numbers in its places, if they are as many; else the command as it is.
-pub(crate) fn with_numbers(command: Command, numbers: &[u32]) -> Command
-    ensures { result ≡ with_numbers command numbers.now }
+/// The command with these numbers in its places, if they are as many, and with this seed; else the command as it is.
+pub(crate) fn with_numbers(command: Command, numbers: &[u32], seed: u64) -> Command
+    ensures { result ≡ with_numbers command numbers.now seed }
 {
     match (command, numbers) {
         (Command::Addmul { .. }, [row, col]) => Command::Addmul {
@@ -82,6 +87,25 @@ pub(crate) fn with_numbers(command: Command, numbers: &[u32]) -> Command
             row_end: *row_end,
             col_end: *col_end,
         },
+        (Command::Make(_), [degree, poly, rows, cols]) => {
+            Command::Make(seeded(*degree, *poly, *rows, *cols, seed))
+        }
+        (Command::Trial(_), [degree, poly, rows, cols]) => {
+            Command::Trial(seeded(*degree, *poly, *rows, *cols, seed))
+        }
         _ => command,
+    }
+}
+
+/// The generated matrix of these numbers and this seed.
+fn seeded(degree: u32, poly: u32, rows: u32, cols: u32, seed: u64) -> Seeded
+    ensures { result ≡ record { degree = degree; poly = poly; rows = rows; cols = cols; seed = seed } }
+{
+    Seeded {
+        degree,
+        poly,
+        rows,
+        cols,
+        seed,
     }
 }

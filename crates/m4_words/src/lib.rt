@@ -2,6 +2,7 @@
 #![tactic(auto)]
 
 mod command;
+mod field;
 mod job;
 mod number;
 mod options;

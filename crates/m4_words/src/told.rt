@@ -5,17 +5,19 @@ ghost use Rattle.m4_outcome.specs.Words.{begun, and_word, and_option, and_operan
 ghost use Rattle.m4_words.specs.Told.{understood, IsSound};
 
 use crate::command::kinds_of;
-use crate::number::number_of;
+use crate::field::field_named;
+use crate::number::{number_of, seed_of};
 use crate::options::with_option;
 use arrayvec::ArrayVec;
 use m4_outcome::{Choices, Command, Kind};
 
-/// What the words tell that have been read: the places that are still wanted, the numbers and the names of files in those
-/// that are filled, and what the options choose.
+/// What the words tell that have been read: the places that are still wanted, the numbers, the seed and the names of files
+/// in those that are filled, and what the options choose. The seed is 0 until it is told.
 #[derive(Drop)]
 pub(crate) struct Told<'a> {
     pub(crate) wanted: &'static [Kind],
     pub(crate) numbers: ArrayVec<u32, 4>,
+    pub(crate) seed: u64,
     pub(crate) files: ArrayVec<&'a str, 3>,
     pub(crate) choices: Choices,
 }
@@ -29,6 +31,7 @@ impl<'a> Told<'a> {
         Told {
             wanted: kinds_of(command),
             numbers: ArrayVec::new(),
+            seed: 0,
             files: ArrayVec::new(),
             choices: Choices::NONE,
         }
@@ -74,6 +77,12 @@ impl<'a> Told<'a> {
         match kind {
             Kind::FileName => self.files.push(word),
             Kind::Number => self.numbers.push(number_of(word)?),
+            Kind::FieldName => {
+                let field = field_named(word)?;
+                self.numbers.push(field.e());
+                self.numbers.push(field.poly());
+            }
+            Kind::Seed => self.seed = seed_of(word)?,
         }
         self.wanted = rest;
         Some(())

@@ -1,6 +1,7 @@
 //! The words of a command line, read from left to right.
 
 ghost use Rattle.std.specs.Prelude.{◌≡◌, ◌+◌, ◌^◌, ◌<◌, Ok, Err, IfOk, IfErr};
+ghost use Rattle.m4_outcome.specs.Seeds.{HasField};
 ghost use Rattle.m4_outcome.specs.Words.{job, understand, begun};
 ghost use Rattle.m4_words.specs.Job.{job_told};
 ghost use Rattle.m4_words.specs.Texts.{texts};
@@ -21,11 +22,13 @@ pub struct WordFault {
 ///
 /// The first word names the command. Every later word that begins with `--` is an option, wherever it stands; the others
 /// are the operands. The words are read from left to right, and the first that is refused is the fault: a word that is
-/// no command, an option that isn't known or was given before, a word that is no number in the place of one, or an operand
-/// too many. Where an operand is missing, the fault is one past the last word. A number is `0`, or a digit from 1 to 9 and
-/// at most eight more.
+/// no command, an option that isn't known or was given before, a word that is no number, seed or field in the place of one, or
+/// an operand too many. Where an operand is missing, the fault is one past the last word. A number is `0`, or a digit from 1
+/// to 9 and at most eight more, and a seed is written alike, below 2^64. A field is `gf2`, or a degree from 2 to 16, a colon,
+/// and an irreducible polynomial of this degree in hexadecimal.
 pub fn job_of<'a>(words: &'a [String]) -> Result<Job<'a>, WordFault>
     ensures asked { IfOk result (λ asked. job (texts words.now) ≡ Ok (job_told asked)) }
+    ensures field { IfOk result (λ asked. HasField asked.command) }
     ensures refused { IfErr result (λ fault. job (texts words.now) ≡ Err fault.word) }
 {
     let [first, behind @ ..] = words else {
@@ -36,7 +39,7 @@ pub fn job_of<'a>(words: &'a [String]) -> Result<Job<'a>, WordFault>
     };
     let told = told_by(command, behind)?;
     Ok(Job {
-        command: with_numbers(command, told.numbers.as_slice()),
+        command: with_numbers(command, told.numbers.as_slice(), told.seed),
         files: told.files,
         choices: told.choices,
     })

@@ -3,6 +3,7 @@ ghost use Rattle.std.specs.Prelude.{◌<◌};
 
 mod elimination;
 mod fields;
+mod generated;
 mod questions;
 mod random;
 
