@@ -1,0 +1,6 @@
+pub mod CountLemmas
+pub mod HalfLemmas
+pub mod PolynomialLemmas
+pub mod RoomLemmas
+pub mod RowLemmas
+pub mod StepLemmas
