@@ -28,3 +28,8 @@ karatsuba-halves e h k some few half rest =
     let is : e - 2 + 2 ≡ e = omega (arith, some) in
     ap karatsuba (omega (arith, is)) ∙ rule_holds-at 15 (e - 2) rule_to_16 (omega (arith, few))
     ∙ ap₂ (λ x y. 2 * karatsuba x + karatsuba y) (omega (arith, some, half)) (omega (arith, some, half, rest))
+
+-- one product for one coefficient
+pub karatsuba-one : (e : ℕ) → 1 ≤ e → e ≤ 1 → karatsuba e ≡ 1
+unfolding karatsuba_within
+karatsuba-one e some one = (let is : e ≡ 1 = omega (arith, some, one) in ap karatsuba is)

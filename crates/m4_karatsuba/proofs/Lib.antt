@@ -3,4 +3,5 @@ pub mod HalfLemmas
 pub mod PolynomialLemmas
 pub mod RoomLemmas
 pub mod RowLemmas
+pub mod SliceLemmas
 pub mod StepLemmas

@@ -1,2 +1,4 @@
 pub mod Counts
+pub mod Factors
 pub mod Polynomials
+pub mod Rooms

@@ -5,7 +5,9 @@
 //! M. Albrecht, "The M4RIE library for dense linear algebra over small fields with even characteristic", ISSAC 2012.
 #![tactic(auto)]
 
+mod factors;
 mod laws;
+mod recursion;
 mod sums;
 
 pub use laws::{law_halves, law_products};
