@@ -1,5 +1,6 @@
 pub mod CountLemmas
 pub mod HalfLemmas
+pub mod PlaceLemmas
 pub mod PolynomialLemmas
 pub mod RoomLemmas
 pub mod RowLemmas

@@ -173,3 +173,9 @@ three_added f low high w0 w1 w2 w3 n is some one two three =
           (third.entries i j below within)
           ∙ ap (λ e. bit_xor (c w0 i j) (product_at e s.m s.l (shown f.a) (shown f.b) i j)) whole;
     }
+
+pub slices_of : (n : ℕ) (s r : Shape) (w next : Window) → r ≡ s → HasSlices n s w → next.rows ≡ w.rows → next.cols ≡ w.cols → HasSlices n r next
+slices_of n s r w next same is rows cols = record {
+  rows = rows ∙ is.rows ∙ ap (λ (q : Shape). n * q.m) (sym same);
+  cols = cols ∙ is.cols ∙ ap (λ (q : Shape). q.n) (sym same);
+}
