@@ -63,7 +63,7 @@ halved f low high is some low_is high_is half rest low_a high_a low_b high_b =
     }
 
 -- ---- windows
-kept_of : (w next : Window) (A : Matrix) → next ≡ showing w A → next ≡ showing w (content next)
+pub kept_of : (w next : Window) (A : Matrix) → next ≡ showing w A → next ≡ showing w (content next)
 kept_of w next A is = is ∙ ap {B = Window} (λ (x : Window). record w { bits = x.bits }) (sym is)
 
 has_slices : (n : ℕ) (s : Shape) (w next : Window) → HasSlices n s w → next ≡ showing w (content next) → HasSlices n s next

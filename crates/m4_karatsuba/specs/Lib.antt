@@ -1,4 +1,5 @@
 pub mod Counts
 pub mod Factors
 pub mod Polynomials
+pub mod Reduced
 pub mod Rooms

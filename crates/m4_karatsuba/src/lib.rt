@@ -8,6 +8,7 @@
 mod factors;
 mod laws;
 mod recursion;
+mod reduce;
 mod sums;
 
 pub use laws::{law_halves, law_products};
