@@ -2,6 +2,7 @@ pub mod CountLemmas
 pub mod HalfLemmas
 pub mod PlaceLemmas
 pub mod PolynomialLemmas
+pub mod ProductLemmas
 pub mod ReductionLemmas
 pub mod RoomLemmas
 pub mod RowLemmas

@@ -85,7 +85,7 @@ inside : (v u m i : ℕ) → u < v → i < m → u * m + i < v * m
 inside v u m i less below = grind arith
 
 -- of the first rows
-polynomial-first : (v m : ℕ) (A B : Matrix) (i j : ℕ) → B.entries ≡ take (v * m) A.entries → i < m → polynomial v m B i j ≡ polynomial v m A i j
+pub polynomial-first : (v m : ℕ) (A B : Matrix) (i j : ℕ) → B.entries ≡ take (v * m) A.entries → i < m → polynomial v m B i j ≡ polynomial v m A i j
 unfolding polynomial
 polynomial-first v m A B i j is below = sum_below-same v _ _ (λ u less.
     ap (λ (l : List ℕ). get_or l j 0 * 2 ^ u)

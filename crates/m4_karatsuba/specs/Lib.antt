@@ -1,4 +1,5 @@
 pub mod Counts
+pub mod Engine
 pub mod Factors
 pub mod Polynomials
 pub mod Reduced

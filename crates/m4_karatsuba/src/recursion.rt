@@ -178,7 +178,7 @@ fn add_once<M: AddMul, L: Ledger>(
 
 /// The product of the factors, in a window that is cut from the room.
 #[cycle(parts)]
-fn product_in_room<M: AddMul, L: Ledger>(
+pub(crate) fn product_in_room<M: AddMul, L: Ledger>(
     base: &mut M,
     room: &mut Room,
     factors: &Factors,
