@@ -1,6 +1,6 @@
 -- Where the products of halves are added, and the room that they take.
 use Rattle.std.proofs.Common.{◌≡◌, ℕ, ◌+◌, ◌-◌, ◌*◌, ◌/◌, ◌<◌, ◌≤◌, sym, ◌∙◌, ap, subst, arith}
-use Rattle.std.proofs.Math.Nat.{mul-le-mul_right}
+use Rattle.std.proofs.Math.Nat.{mul-le-mul_left, mul-le-mul_right}
 use Rattle.m4_model.specs.Text.{words_per_row}
 use Rattle.m4_mzd.specs.Reach.{IsReached}
 use Rattle.m4_mzd.specs.declared.add_mul.Shape.{Shape}
@@ -74,3 +74,28 @@ module _ (f low high : Factors) (rows words : ℕ) (is : AreFactors f) (halves :
 
   pub counts : 2 * karatsuba low.count + karatsuba high.count ≡ karatsuba f.count
   counts = sym (karatsuba-halves f.count low.count high.count some is.few halves.low_count (halves.high_count ∙ ap (λ h. f.count - h) (sym halves.low_count)))
+
+-- ---- a smaller product takes no more words
+rows_rise : (k x y p q : ℕ) → x ≤ y → p ≤ q → k * x * p ≤ k * y * q
+rows_rise k x y p q rows words =
+    let a : k * x ≤ k * y = mul-le-mul_left k rows in
+    let b : k * x * p ≤ k * y * p = mul-le-mul_right p a in
+    let c : k * y * p ≤ k * y * q = mul-le-mul_left (k * y) words in
+    omega (arith, b, c)
+
+words_rise : (a b : ℕ) → a ≤ b → words_per_row a ≤ words_per_row b
+words_rise a b less = omega (arith, less)
+
+pub room_rises : (e : ℕ) (s r : Shape) → s.m ≤ r.m → s.l ≤ r.l → s.n ≤ r.n → words_with_sums e s ≤ words_with_sums e r
+room_rises e s r rows inner cols =
+    let l = words_rise s.l r.l inner in
+    let n = words_rise s.n r.n cols in
+    let a = rows_rise e s.m r.m (words_per_row s.l) (words_per_row r.l) rows l in
+    let b = rows_rise e s.l r.l (words_per_row s.n) (words_per_row r.n) inner n in
+    let c = rows_rise (2 * e - 1) s.m r.m (words_per_row s.n) (words_per_row r.n) rows n in
+    let x = rows_rise 1 s.m r.m (words_per_row s.l) (words_per_row r.l) rows l in
+    let y = rows_rise 1 s.l r.l (words_per_row s.n) (words_per_row r.n) inner n in
+    let z = rows_rise 1 s.m r.m (words_per_row s.n) (words_per_row r.n) rows n in
+    let level : slice_words s ≤ slice_words r = omega (arith, x, y, z) in
+    let d : 2 * (e - 1) * slice_words s ≤ 2 * (e - 1) * slice_words r = mul-le-mul_left (2 * (e - 1)) level in
+    omega (arith, a, b, c, d)
