@@ -33,7 +33,7 @@ pub struct KaratsubaMul<M: AddMul> {
     field: Field,
     reach: Shape,
     scratch: Scratch,
-    engine: M,
+    pub(crate) engine: M,
 }
 
 impl<M: AddMul> Model for KaratsubaMul<M> {

@@ -12,7 +12,8 @@ mod product;
 mod recursion;
 mod reduce;
 mod sums;
+#[cfg(test)]
+mod tests;
 
 pub use engine::KaratsubaMul;
 pub use laws::{law_halves, law_products};
-pub use sums::{add_rows_from, set_sum};

@@ -129,9 +129,7 @@ fn add_remainders<M: AddMul, L: Ledger>(
     let mut product = product_in_room(engine, room, factors, steps);
     reduce(&mut product, field, factors.shape);
     let _rows = product.rows();
-    let (remainders, _) = product
-        .see()
-        .split_rows(factors.count * factors.shape.m);
+    let (remainders, _) = product.see().split_rows(factors.count * factors.shape.m);
     add_slices(c, &remainders);
     room.give_back(product);
 }

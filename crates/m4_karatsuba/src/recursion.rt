@@ -87,7 +87,7 @@ fn add_twice<M: AddMul, L: Ledger>(
     requires reached { IsReached (M.limits base.old) factors.now.shape.m factors.now.shape.l factors.now.shape.n }
     requires enough { words_with_product factors.now.count factors.now.shape ≤ room.old.left }
     ensures sum { (count : ℕ) → HasSlices count factors.now.shape c.old → places.0 + (2 * factors.now.count - 1) ≤ count → places.1 + (2 * factors.now.count - 1) ≤ count
-      → IsAdded count factors.now.shape c.old c.new (λ i j. bit_xor (product_of factors.now i j * 2 ^ places.0) (product_of factors.now i j * 2 ^ places.1)) }
+        → IsAdded count factors.now.shape c.old c.new (λ i j. bit_xor (product_of factors.now i j * 2 ^ places.0) (product_of factors.now i j * 2 ^ places.1)) }
     ensures reach { M.limits base.new ≡ M.limits base.old }
     ensures still_ready { M.ready base.new }
     ensures room { room.new ≡ room.old }
@@ -123,7 +123,7 @@ fn add_middle<M: AddMul, L: Ledger>(
     requires reached { IsReached (M.limits base.old) low.now.shape.m low.now.shape.l low.now.shape.n }
     requires enough { words_with_sums low.now.count low.now.shape ≤ room.old.left }
     ensures sum { (count : ℕ) → HasSlices count low.now.shape c.old → low.now.count + (2 * low.now.count - 1) ≤ count
-      → IsAdded count low.now.shape c.old c.new (λ i j. middle_of low.now high.now i j * 2 ^ low.now.count) }
+        → IsAdded count low.now.shape c.old c.new (λ i j. middle_of low.now high.now i j * 2 ^ low.now.count) }
     ensures reach { M.limits base.new ≡ M.limits base.old }
     ensures still_ready { M.ready base.new }
     ensures room { room.new ≡ room.old }
@@ -164,7 +164,7 @@ fn add_once<M: AddMul, L: Ledger>(
     requires reached { IsReached (M.limits base.old) factors.now.shape.m factors.now.shape.l factors.now.shape.n }
     requires enough { words_with_product factors.now.count factors.now.shape ≤ room.old.left }
     ensures sum { (count : ℕ) → HasSlices count factors.now.shape c.old → place + (2 * factors.now.count - 1) ≤ count
-      → IsAdded count factors.now.shape c.old c.new (λ i j. product_of factors.now i j * 2 ^ place) }
+        → IsAdded count factors.now.shape c.old c.new (λ i j. product_of factors.now i j * 2 ^ place) }
     ensures reach { M.limits base.new ≡ M.limits base.old }
     ensures still_ready { M.ready base.new }
     ensures room { room.new ≡ room.old }

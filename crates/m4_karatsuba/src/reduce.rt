@@ -21,7 +21,7 @@ pub(crate) fn reduce(c: &mut WinMut, field: Field, shape: Shape)
     requires { HasSlices (2 * (the_field field).degree - 1) shape c.old }
     ensures kept { c.new ≡ showing c.old (content c.new) }
     ensures remainders { (i j : ℕ) → i < shape.m → j < shape.n
-      → polynomial (the_field field).degree shape.m (content c.new) i j ≡ rem (the_field field) (polynomial (2 * (the_field field).degree - 1) shape.m (content c.old) i j) }
+        → polynomial (the_field field).degree shape.m (content c.new) i j ≡ rem (the_field field) (polynomial (2 * (the_field field).degree - 1) shape.m (content c.old) i j) }
 {
     let degree = field.e();
     for v in (degree..2 * degree - 1).rev() {
@@ -39,7 +39,7 @@ fn fold_slice(c: &mut WinMut, field: Field, shape: Shape, v: u32)
     requires cols { c.old.cols ≡ shape.n }
     ensures kept { c.new ≡ showing c.old (content c.new) }
     ensures remainders { (i j : ℕ) → i < shape.m → j < shape.n
-      → rem (the_field field) (polynomial v shape.m (content c.new) i j) ≡ rem (the_field field) (polynomial (v + 1) shape.m (content c.old) i j) }
+        → rem (the_field field) (polynomial v shape.m (content c.new) i j) ≡ rem (the_field field) (polynomial (v + 1) shape.m (content c.old) i j) }
 {
     let degree = field.e();
     let _rows = c.rows();

@@ -8,7 +8,7 @@ ghost use Rattle.m4_karatsuba.specs.Polynomials.{added_from};
 use m4_mzd::{Win, WinMut};
 
 /// Adds the rows of `src`, a window of as many columns, to those of `dst` from row `first` on.
-pub fn add_rows_from(dst: &mut WinMut, first: u32, src: &Win)
+pub(crate) fn add_rows_from(dst: &mut WinMut, first: u32, src: &Win)
     requires in_rows { first + (shown src.now).rows ≤ dst.old.rows }
     requires same_cols { (shown src.now).cols ≡ dst.old.cols }
     ensures { dst.new ≡ showing dst.old (added_from first (content dst.old) (shown src.now)) }
@@ -20,7 +20,7 @@ pub fn add_rows_from(dst: &mut WinMut, first: u32, src: &Win)
 }
 
 /// Makes of `sum` the rows of `low`, a window of its shape, with those of `high` added to the first of them.
-pub fn set_sum(sum: &mut WinMut, low: &Win, high: &Win)
+pub(crate) fn set_sum(sum: &mut WinMut, low: &Win, high: &Win)
     requires low_rows { (shown low.now).rows ≡ sum.old.rows }
     requires low_cols { (shown low.now).cols ≡ sum.old.cols }
     requires high_rows { (shown high.now).rows ≤ sum.old.rows }
