@@ -1,9 +1,8 @@
 -- Products of packed matrices by their slices.
-use Rattle.std.proofs.Common.{◌≡◌, ℕ, suc, zero, ◌+◌, ◌-◌, ◌*◌, ◌^◌, ◌<◌, ◌≤◌, take, refl, sym, ◌∙◌, ap, ap₂, subst, arith, bit_xor}
+use Rattle.std.proofs.Common.{◌≡◌, ℕ, suc, zero, ◌+◌, ◌-◌, ◌*◌, ◌^◌, ◌<◌, take, sym, ◌∙◌, ap, ap₂, arith, bit_xor}
 use Rattle.std.proofs.Math.Pow.{pow_pos}
-use Rattle.std.specs.Int.{bit_at}
 use Rattle.std.specs.Int.Bits.{xor_lt}
-use Rattle.m4_model.specs.Field.{Field, IsCarried, gf2, sum_below, clmul, mul, rem}
+use Rattle.m4_model.specs.Field.{Field, IsCarried, sum_below, clmul, mul, rem}
 use Rattle.m4_model.specs.Matrix.{Matrix, IsMatrix, at, product, matrix_of}
 use Rattle.m4_model.proofs.FieldLemmas.{sum_below-same}
 use Rattle.m4_model.proofs.MatrixLemmas.{at-table}

@@ -1,5 +1,5 @@
 -- The slices from the degree on, folded into those below them.
-use Rattle.std.proofs.Common.{◌≡◌, ◌≢◌, ℕ, bit_and, inl, inr, suc, zero, ◌+◌, ◌-◌, ◌*◌, ◌/◌, ◌%◌, ◌^◌, ◌<◌, ◌≤◌, List, [], length, get_or, take, drop, ◌++◌, get_or-take, get_or-drop, refl, sym, ◌∙◌, ap, ap₂, subst, arith, bit_xor}
+use Rattle.std.proofs.Common.{◌≡◌, ◌≢◌, ℕ, bit_and, inl, inr, suc, zero, ◌+◌, ◌-◌, ◌*◌, ◌/◌, ◌^◌, ◌<◌, ◌≤◌, List, [], length, get_or, take, drop, ◌++◌, get_or-take, get_or-drop, refl, sym, ◌∙◌, ap, ap₂, subst, arith, bit_xor}
 use Rattle.std.proofs.Math.Nat.{mul-le-mul_right, pow-suc}
 use Rattle.std.proofs.Math.Pow.{pow_mono}
 use Rattle.std.proofs.lemmas.List.{get_or_append_left}

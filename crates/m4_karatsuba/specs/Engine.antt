@@ -1,5 +1,5 @@
 -- What contracts see of the engine that multiplies by slices, and what is true of it.
-use Rattle.std.specs.Prelude.{◌≡◌, ℕ, ◌+◌, ◌-◌, ◌*◌, ◌≤◌}
+use Rattle.std.specs.Prelude.{ℕ, ◌-◌, ◌*◌, ◌≤◌}
 use Rattle.m4_model.specs.Field.{Field, IsCarried, rem}
 use Rattle.m4_model.specs.Matrix.{Matrix, matrix_of}
 use Rattle.m4_mzd.specs.Reach.{IsReached}

@@ -1,5 +1,5 @@
 -- What a slice above the degree stands for in the slices below it.
-use Rattle.std.specs.Prelude.{ℕ, ◌+◌, ◌*◌, ◌^◌}
+use Rattle.std.specs.Prelude.{ℕ, ◌*◌, ◌^◌}
 use Rattle.std.specs.Int.{bit_at}
 use Rattle.m4_model.specs.Field.{Field, sum_below}
 

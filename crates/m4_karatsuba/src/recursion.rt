@@ -1,6 +1,7 @@
 //! The recursion: a product of polynomials is three products of their halves.
 
 ghost use Rattle.std.specs.Prelude.{◌≡◌, ℕ, ◌+◌, ◌-◌, ◌*◌, ◌^◌, ◌≤◌, bit_xor};
+ghost use Rattle.m4_mzd.specs.declared.TheConstants.{MOST_SIDE};
 ghost use Rattle.m4_mzd.specs.Reach.{IsReached};
 ghost use Rattle.m4_mzd.specs.Seen.{shown};
 ghost use Rattle.m4_karatsuba.specs.Counts.{karatsuba};
@@ -186,7 +187,7 @@ pub(crate) fn product_in_room<M: AddMul, L: Ledger>(
 ) -> WinMut
     requires ready { M.ready base.old }
     requires factors { AreFactors factors.now }
-    requires few { (2 * factors.now.count - 1) * factors.now.shape.m ≤ 2 ^ 24 }
+    requires few { (2 * factors.now.count - 1) * factors.now.shape.m ≤ MOST_SIDE }
     requires reached { IsReached (M.limits base.old) factors.now.shape.m factors.now.shape.l factors.now.shape.n }
     requires enough { words_with_product factors.now.count factors.now.shape ≤ room.old.left }
     ensures product { HoldsProduct (2 * factors.now.count - 1) factors.now.shape result (product_of factors.now) }

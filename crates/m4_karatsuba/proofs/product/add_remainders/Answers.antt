@@ -1,4 +1,4 @@
-use Rattle.std.proofs.Common.{◌≡◌, ◌+◌, ◌-◌, ◌*◌, take, ap, refl, sym, ◌∙◌, arith}
+use Rattle.std.proofs.Common.{◌*◌, take, ap, sym, ◌∙◌}
 use Rattle.m4_model.specs.Field.{Field}
 use Rattle.m4_model.specs.Matrix.{Matrix, added}
 use Rattle.m4_field.specs.Fields.{the_field}

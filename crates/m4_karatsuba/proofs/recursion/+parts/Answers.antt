@@ -1,4 +1,4 @@
-use Rattle.std.proofs.Common.{rules, ◌≡◌, ℕ, ◌+◌, ◌-◌, ◌*◌, ◌^◌, ◌≤◌, ap, refl, subst, sym, ◌∙◌, arith}
+use Rattle.std.proofs.Common.{rules, ◌≡◌, ℕ, ◌-◌, ◌*◌, ◌^◌, ◌≤◌, ap, refl, subst, sym, ◌∙◌, arith}
 use Rattle.m4_mzd.specs.Seen.{shown}
 use Rattle.m4_mzd.specs.Span.{Span}
 use Rattle.m4_mzd.proofs.SeenLemmas.{IsMatrix_shown}

@@ -1,4 +1,4 @@
-use Rattle.std.proofs.Common.{ℕ, ◌+◌, ◌*◌, ◌^◌}
+use Rattle.std.proofs.Common.{◌+◌, ◌*◌, ◌^◌}
 use Rattle.std.specs.Int.{bit_at}
 use Rattle.m4_model.specs.Matrix.{at}
 use Rattle.m4_mzd.specs.Seen.{shown}

@@ -1,4 +1,4 @@
-use Rattle.std.proofs.Common.{◌≡◌, ◌+◌, ◌-◌, ◌*◌, take, ap, ◌∙◌, arith}
+use Rattle.std.proofs.Common.{◌≡◌, ◌-◌, ◌*◌, take, ap, ◌∙◌, arith}
 use Rattle.m4_model.specs.Matrix.{Matrix}
 use Rattle.m4_field.specs.Fields.{the_field}
 use Rattle.m4_mzd.specs.Window.{Window}

@@ -1,6 +1,5 @@
-use Rattle.std.proofs.Common.{◌≡◌, ◌-◌, ◌*◌, ◌≤◌, ap, refl, sym, ◌∙◌, arith}
+use Rattle.std.proofs.Common.{◌≡◌, arith}
 use Rattle.m4_field.specs.Fields.{the_field}
-use Rattle.m4_mzd.specs.Window.{Window, content}
 use Rattle.m4_karatsuba.proofs.ReductionLemmas.{all_folded}
 use Rattle.m4_karatsuba.proofs.reduce.reduce.Goals as goal
 
