@@ -4,7 +4,6 @@ pub mod PlaceLemmas
 pub mod PolynomialLemmas
 pub mod ProductLemmas
 pub mod ReductionLemmas
-pub mod RoomLemmas
 pub mod RowLemmas
 pub mod SliceLemmas
 pub mod StepLemmas

@@ -1,5 +1,5 @@
 -- The slices from the degree on, folded into those below them.
-use Rattle.std.proofs.Common.{◌≡◌, ◌≢◌, ℕ, bit_and, inl, inr, suc, zero, ◌+◌, ◌-◌, ◌*◌, ◌/◌, ◌^◌, ◌<◌, ◌≤◌, List, [], length, get_or, take, drop, ◌++◌, get_or-take, get_or-drop, refl, sym, ◌∙◌, ap, ap₂, subst, arith, bit_xor}
+use Rattle.std.proofs.Common.{◌≡◌, ◌≢◌, ℕ, bit_and, inl, inr, suc, zero, ◌+◌, ◌-◌, ◌*◌, ◌/◌, ◌^◌, ◌<◌, ◌≤◌, List, [], length, get_or, take, drop, ◌++◌, get_or-take, get_or-drop, refl, sym, ◌∙◌, ap, subst, arith, bit_xor}
 use Rattle.std.proofs.Math.Nat.{mul-le-mul_right, pow-suc}
 use Rattle.std.proofs.Math.Pow.{pow_mono}
 use Rattle.std.proofs.lemmas.List.{get_or_append_left}
@@ -16,7 +16,7 @@ use Rattle.m4_model.proofs.Division.{IsTop, top_of}
 use Rattle.m4_model.proofs.Remainder.{rem_same, rem_element}
 use Rattle.m4_mzd.specs.Window.{Window, content, showing}
 use Rattle.m4_mzd.specs.declared.add_mul.Shape.{Shape}
-use Rattle.m4_mzd.proofs.PairLemmas.{upper, lower, stacked, rejoined}
+use Rattle.m4_mzd.proofs.PairLemmas.{upper, lower, stacked}
 use Rattle.m4_slice.proofs.JoinedLemmas.{number_small}
 use Rattle.m4_karatsuba.specs.Polynomials.{polynomial, added_from}
 use Rattle.m4_karatsuba.specs.Factors.{HasSlices, IsAdded}
@@ -106,12 +106,6 @@ slice_entry v m i j A B is below =
     (ap (λ (rows : List (List ℕ)). get_or rows i []) is ∙ get_or-take m (drop (v * m) A.entries) i [] below ∙ get_or-drop (v * m) A.entries i [])
 
 -- ---- a slice that was folded
-pub fold_kept : (w low now high last : Window) (at : ℕ) → at ≤ w.rows → low ≡ upper w at → high ≡ lower w at → now ≡ showing low (content now) → last ≡ stacked now high → last ≡ showing w (content last)
-fold_kept w low now high last at within top bottom kept joined =
-    let is : last ≡ record w { bits = now.bits ++ drop at w.bits }
-    = joined ∙ ap₂ stacked (kept ∙ ap (λ (x : Window). showing x (content now)) top) bottom ∙ rejoined w at (now.bits ++ drop at w.bits) (now.bits ++ drop at w.bits) within refl in
-    is ∙ ap {B = Window} (λ (x : Window). record w { bits = x.bits }) (sym is)
-
 pub fold_remainder : (F : Field) (first v : ℕ) (s : Shape) (w low now high last : Window) (B : Matrix) → IsCarried F → v ≡ first + F.degree → low ≡ upper w (v * s.m) → high ≡ lower w (v * s.m)
     → IsAdded (first + F.degree) s low now (λ i j. terms_of F first (at B i j)) → length now.bits ≡ v * s.m → last ≡ stacked now high
     → B.entries ≡ take s.m high.bits → (i j : ℕ) → i < s.m → j < s.n

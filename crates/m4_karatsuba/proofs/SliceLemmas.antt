@@ -87,9 +87,6 @@ single f w next is one slices sum = record {
       (IsMatrix_shown f.a) (IsMatrix_shown f.b) refl refl is.a_rows is.a_cols is.b_rows is.b_cols slices.rows slices.cols sum;
 }
 
-pub single_sides : (count m rows : ℕ) → 1 ≤ count → count ≤ 1 → rows ≡ count * m → rows ≡ m
-single_sides count m rows some one is = (let e : count ≡ 1 = omega (arith, some, one) in is ∙ ap (λ k. k * m) e ∙ (omega arith))
-
 -- ---- a product in the room
 pub held : (k : ℕ) (s : Shape) (w cleared next : Window) (g : ℕ → ℕ → ℕ) → w.rows ≡ k * s.m → w.cols ≡ s.n → cleared ≡ showing w (zero_matrix gf2 w.rows w.cols)
     → IsAdded k s cleared next g → HoldsProduct k s next g

@@ -23,11 +23,14 @@ use std::sync::ledger::{Blank, Ledger};
 
 /// The engine that multiplies over a field by an engine over GF(2).
 ///
-/// Both factors are taken apart into slices, one matrix over GF(2) for each coefficient of the elements, so that the product is one
-/// of polynomials whose coefficients are matrices. It is made by Karatsuba's rule, from three products of halves; the slices from
-/// the degree on are then folded into the others by the field's polynomial, and the sum is put together. A. Karatsuba and
-/// Yu. Ofman, Multiplication of multidigit numbers on automata, Soviet Physics Doklady 7, 1963; M. Albrecht, The M4RIE library for
-/// dense linear algebra over small fields with even characteristic, ISSAC 2012.
+/// Both factors are taken apart into slices, one matrix over GF(2) for each coefficient of the elements, so that the product is
+/// one of polynomials whose coefficients are matrices. It is made by Karatsuba's rule, from three products of halves; the slices
+/// from the degree on are then folded into the others by the field's polynomial, and the sum is put together. A. Karatsuba and
+/// Yu. Ofman, Multiplication of multidigit numbers on automata, Soviet Physics Doklady 7, 1963; M. Albrecht, The M4RIE library
+/// for dense linear algebra over small fields with even characteristic, ISSAC 2012.
+///
+/// A matrix has at most 2^24 rows, and so have all slices of a factor, or of a product before it is reduced, together: of a
+/// product twice as many as the degree, less one.
 #[derive(Drop)]
 pub struct KaratsubaMul<M: AddMul> {
     field: Field,
