@@ -8,9 +8,11 @@ pub mod RowDigits
 pub mod Rows
 pub mod Pieces
 pub mod BitRows
+pub mod FourLemmas
 pub mod ElementRows
 pub mod ElementWords
 pub mod GatheredWords
+pub mod TurnedWords
 pub mod TakenWords
 pub mod HeadLemmas
 pub mod Versions

@@ -12,6 +12,7 @@ ghost use Rattle.m4_etext.specs.Place.{IsValue};
 ghost use Rattle.m4_etext.specs.Pieces.{ReadsDigits, IsDigitAt, digits_in};
 ghost use Rattle.m4_etext.specs.Kinds.{WritesBits};
 
+use crate::eight::word_of_sixteen;
 use crate::radix::digit_value;
 use m4_bits::word_of_digits;
 use m4_mzed::EWinMut;
@@ -126,6 +127,22 @@ fn is_within_row(word: u64, left: u32, count: u32) -> bool
 /// no digit. At most 16 digits.
 #[inline]
 fn word_of_fours(digits: &[u8]) -> Option<u64>
+    requires { length digits.now ≤ 16 }
+    ensures word { IfSome result (λ word. (i : ℕ) → i < length digits.now → IsValue (slice_index digits.now i) (word / 16 ^ i % 16)) }
+    ensures small { IfSome result (λ word. word < 16 ^ length digits.now) }
+    ensures other { IfNone result (((i : ℕ) → i < length digits.now → (v : ℕ) × IsValue (slice_index digits.now i) v) → ⊥) }
+{
+    if digits.len() == 16 {
+        if let Some(word) = word_of_sixteen(digits) {
+            return Some(word);
+        }
+    }
+    word_of_each(digits)
+}
+
+/// The same, digit by digit.
+#[inline]
+fn word_of_each(digits: &[u8]) -> Option<u64>
     requires { length digits.now ≤ 16 }
     ensures word { IfSome result (λ word. (i : ℕ) → i < length digits.now → IsValue (slice_index digits.now i) (word / 16 ^ i % 16)) }
     ensures small { IfSome result (λ word. word < 16 ^ length digits.now) }

@@ -9,17 +9,36 @@ ghost use Rattle.m4_etext.specs.Place.{IsValue};
 ghost use Rattle.m4_etext.specs.Digits.{digit_of_elements};
 ghost use Rattle.m4_etext.specs.ElementWords.{IsWordOfElements, IsSpelled};
 
+use crate::eight::word_of_sixteen;
 use crate::hex::hex_code;
 use crate::kind::element_digits;
+use crate::turned::turned;
 use m4_field::Field;
 
 /// More than any element: it stands for a byte that is no digit, and for what has one.
 const FAULT: u32 = 65536;
 
 /// The word of the elements that these digits spell, the first of them its lowest; or `None` where a byte is no digit, or the
-/// digits of an element spell none of this field.
+/// digits of an element spell none of this field. A whole word of elements whose digits are all their bits is read eight digits at a
+/// time.
 #[inline]
 pub fn word_of_elements(digits: &[u8], field: &Field) -> Option<u64>
+    requires room { length digits.now ≤ 64 / width (the_field field.now) * digits_per_element (the_field field.now) }
+    requires whole { length digits.now % digits_per_element (the_field field.now) ≡ 0 }
+    ensures elements { IfSome result (λ word. AreElements (the_field field.now) (width (the_field field.now)) word) }
+    ensures digits { IfSome result (λ word. (i : ℕ) → i < length digits.now
+        → IsValue (slice_index digits.now i) (digit_of_elements (width (the_field field.now)) (digits_per_element (the_field field.now)) word i)) }
+{
+    let count = element_digits(field);
+    if field.e() == 4 * count && digits.len() == 16 {
+        return Some(turned(word_of_sixteen(digits)?, count));
+    }
+    gathered(digits, field)
+}
+
+/// The same, element by element.
+#[inline]
+fn gathered(digits: &[u8], field: &Field) -> Option<u64>
     requires room { length digits.now ≤ 64 / width (the_field field.now) * digits_per_element (the_field field.now) }
     requires whole { length digits.now % digits_per_element (the_field field.now) ≡ 0 }
     ensures elements { IfSome result (λ word. AreElements (the_field field.now) (width (the_field field.now)) word) }

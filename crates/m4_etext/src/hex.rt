@@ -1,9 +1,12 @@
 //! Hexadecimal digits, to be written.
 
-ghost use Rattle.std.specs.Prelude.{◌≡◌, ◌*◌, ◌/◌, ◌<◌, ◌≤◌, ◌==◌, ◌||◌, ℕ, false, length, drop, IsTrue};
+ghost use Rattle.std.specs.Prelude.{◌≡◌, ◌*◌, ◌/◌, ◌%◌, ◌^◌, ◌<◌, ◌≤◌, ◌==◌, ◌||◌, ℕ, false, length, drop, slice_index, IsTrue};
 ghost use Rattle.std.specs.Fmt.{digit_glyph};
 ghost use Rattle.m4_model.specs.Headed.{hexadecimal};
 ghost use Rattle.m4_etext.specs.Digits.{fours_of, digit_of_elements, elements_of};
+
+use crate::eight::put_eight;
+use crate::turned::turned;
 
 /// The digit of this value, 0 to 9 or a to f.
 #[inline]
@@ -33,7 +36,21 @@ pub fn put_fours(word: u64, digits: &mut [u8])
     requires { length digits.old ≤ 16 }
     ensures { digits.new ≡ fours_of word (length digits.old) }
 {
-    for place in 0..digits.len() {
+    let eights = digits.len() / 8;
+    for place in 0..eights {
+        put_eight(word >> (32 * place), digits, 8 * place);
+    }
+    put_rest(word, digits, 8 * eights);
+}
+
+/// Writes the digits from `written` on, of which those before are written.
+#[inline]
+fn put_rest(word: u64, digits: &mut [u8], written: usize)
+    requires few { length digits.old ≤ 16 }
+    requires so_far { (k : ℕ) → k < written → slice_index digits.old k ≡ digit_glyph false (word / 16 ^ k % 16) }
+    ensures { digits.new ≡ fours_of word (length digits.old) }
+{
+    for place in written..digits.len() {
         digits[place] = hex_digit(((word >> (4 * place)) % 16) as u8);
     }
 }
@@ -56,9 +73,26 @@ pub fn put_elements(word: u64, width: u32, count: u32, digits: &mut [u8])
     }
 }
 
-/// The same. It is a part of each of its callers, which know the number of digits.
+/// The same. It is a part of each of its callers, which know the number of digits. Elements whose digits are all their bits are
+/// written eight digits at a time.
 #[inline]
 fn put_elements_by(word: u64, width: u32, count: u32, digits: &mut [u8])
+    requires widths { IsTrue (width == 1 || width == 2 || width == 4 || width == 8 || width == 16) }
+    requires some { 1 ≤ count }
+    requires most { count ≤ 4 }
+    requires room { length digits.old ≤ 64 / width * count }
+    ensures { digits.new ≡ elements_of width count word (length digits.old) }
+{
+    if 4 * count == width {
+        put_fours(turned(word, count), digits);
+    } else {
+        put_each(word, width, count, digits);
+    }
+}
+
+/// The same, digit by digit.
+#[inline]
+fn put_each(word: u64, width: u32, count: u32, digits: &mut [u8])
     requires widths { IsTrue (width == 1 || width == 2 || width == 4 || width == 8 || width == 16) }
     requires some { 1 ≤ count }
     requires most { count ≤ 4 }

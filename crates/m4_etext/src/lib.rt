@@ -19,6 +19,7 @@ mod bare;
 mod bare_rows;
 mod base;
 mod bits;
+mod eight;
 mod elements;
 mod fault;
 mod fed;
@@ -40,6 +41,7 @@ mod radix;
 mod reader;
 #[cfg(test)]
 mod tests;
+mod turned;
 mod write;
 
 pub use fault::{TextFault, WriteFault};

@@ -1,31 +1,9 @@
-use Rattle.std.proofs.Common.{◌≡◌, ℕ, ◌<◌, false, length, get_or, sym, ap, ◌∙◌, inl, inr, set, get_or-set_same, get_or-set_other, ext_get_or, arith}
-use Rattle.std.specs.Fmt.{digit_glyph}
-use Rattle.std.proofs.lemmas.Bool.{cases_eq}
-use Rattle.std.proofs.lemmas.List.{length-set}
-use Rattle.std.proofs.lemmas.List.FromFn.{length-map-range_with_len, get_or-map-range_with_len}
-use Rattle.m4_etext.specs.Digits.{digit_of_elements}
+use Rattle.std.proofs.Common.{length}
+use Rattle.m4_etext.proofs.TurnedWords.{few_digits, turned_digits}
 use Rattle.m4_etext.proofs.hex.put_elements_by.Goals as goal
 
-pub loop-place-preserved : goal.loop-place-preserved
-loop-place-preserved c =
-    let now = c.loop-place in
-    let p = now.place in
-    let f : ℕ → ℕ = λ i. digit_glyph false (digit_of_elements c.args.width c.args.count c.args.word i) in
-    let inside : p < length now.digits = omega (arith, c.loop-place-test.true, now.invariant.long) in
-    let here : c.hex_digit.result ≡ f p = c.hex_digit.ensures ∙ ap (digit_glyph false) c.element_digit.ensures.digit in
-    record {
-      long = length-set now.digits p c.hex_digit.result ∙ now.invariant.long;
-      written = λ i below. elim (cases_eq i p) [
-        | inl same ↦ ap (λ k. get_or (set now.digits p c.hex_digit.result) k 0) same ∙ get_or-set_same now.digits p c.hex_digit.result 0 inside ∙ here ∙ ap f (sym same)
-        | inr other ↦ get_or-set_other now.digits p i c.hex_digit.result 0 other ∙ now.invariant.written i (omega (arith, below, other))
-      ];
-    }
-
-pub returns : goal.returns
-returns c =
-    let now = c.loop-place in
+pub returns-then-count-width : goal.returns-then-count-width
+returns-then-count-width c =
     let n = length c.args.digits.now in
-    let f : ℕ → ℕ = λ i. digit_glyph false (digit_of_elements c.args.width c.args.count c.args.word i) in
-    let all = c.loop-place-test.false in
-    ext_get_or 0 _ _ (now.invariant.long ∙ sym (length-map-range_with_len f 0 n)) (λ i below.
-    now.invariant.written i (omega (arith, below, now.invariant.long, all)) ∙ sym (get_or-map-range_with_len f 0 n i i 0 (omega (arith, below, now.invariant.long)) (omega arith)))
+    turned_digits c.args.width c.args.count c.args.word c.turned.result n c.put_fours.new.digits c.if-count-width.true
+    (few_digits c.args.width c.args.count n c.requires.widths c.requires.some c.requires.most c.if-count-width.true c.requires.room) c.turned.ensures.there c.put_fours.ensures

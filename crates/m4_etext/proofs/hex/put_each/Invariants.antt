@@ -1,7 +1,7 @@
 use Rattle.std.proofs.Common.{◌≡◌, ◌<◌, ℕ, false, length, get_or}
 use Rattle.std.specs.Fmt.{digit_glyph}
 use Rattle.m4_etext.specs.Digits.{digit_of_elements}
-use Rattle.m4_etext.proofs.hex.put_elements_by.Given as goal
+use Rattle.m4_etext.proofs.hex.put_each.Given as goal
 
 -- the digits before the place are written
 abbrev pub invariant-loop-place : goal.invariant-loop-place

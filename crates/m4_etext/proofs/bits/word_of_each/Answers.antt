@@ -1,6 +1,6 @@
 use Rattle.std.proofs.Common.{◌+◌, subst, sym, arith}
 use Rattle.m4_etext.proofs.BitRows.{IsWordOfFours, fours_more, fours_room, moved}
-use Rattle.m4_etext.proofs.bits.word_of_fours.Goals as goal
+use Rattle.m4_etext.proofs.bits.word_of_each.Goals as goal
 
 pub overflow_add-word : goal.overflow_add-word
 overflow_add-word c =
